@@ -25,9 +25,9 @@ laid-append d at (b ∷ s) t =
     laid-append (set d at b) (suc at) s t ∙ ap (λ (k : ℕ). laid (laid (set d at b) (suc at) s) k t) e
 
 -- ---- a loop that lays a run: nothing yet; one byte more; all
-pub laid-none : (d : List ℕ) (at : ℕ) (s : List ℕ) → d ≡ laid d at (take 0 s)
+pub laid-none : (d : List ℕ) (at : ℕ) → d ≡ laid d at []
 unfolding laid
-laid-none d at s = refl
+laid-none d at = refl
 
 laid-snoc : (d : List ℕ) (at : ℕ) (s : List ℕ) (b : ℕ) → laid d at (s ++ (b ∷ [])) ≡ set (laid d at s) (at + length s) b
 unfolding laid
