@@ -38,8 +38,8 @@ pub laid-more : (d : List ℕ) (at : ℕ) (s : List ℕ) (j b : ℕ) {e : List �
 laid-more d at s j b {e} h p q =
     rw (q, p, add-one, take-suc s j 0 h, laid-snoc d at (take j s) (getD s j 0), length-take-le j s (omega arith))
 
-pub laid-all : (d : List ℕ) (at : ℕ) (s : List ℕ) (j : ℕ) → length s ≤ j → laid d at (take j s) ≡ laid d at s
-laid-all d at s j h = rw (take-all j s h)
+pub laid-all : (d : List ℕ) (at : ℕ) (s : List ℕ) (j : ℕ) {e : List ℕ} → length s ≤ j → e ≡ laid d at (take j s) → e ≡ laid d at s
+laid-all d at s j h q = q ∙ rw (take-all j s h)
 
 -- ---- stores one after the other in straight code, which `sets` computes to
 pub laid-sets : (d : List ℕ) (at : ℕ) (s : List ℕ) → laid d at s ≡ sets d at s

@@ -1,6 +1,6 @@
 -- `mask::apply_mask` meets its contract. The loop's invariant: the first i bytes of the masked piece are laid over the store, and the
 -- phase is that of the payload's byte position + i.
-use mathlib.Core.Path.{_≡_, _∙_}
+use mathlib.Core.Path.{_≡_}
 use Prim.Native.Nat.{_<_, _≤_, _+_, _-_, _%_}
 use native.Mathlib.Omega.{arith}
 use lib.ListN.{length, take, length-set}
@@ -68,7 +68,7 @@ returns : tie.Need-returns Inv-loop μ-loop
 returns c =
     let a = c .before .before .args in
     let h : length (masked (a .t4) (a .position) (a .piece .now)) ≤ c .before .loop .i = rw length-masked (omega arith) in
-    c .before .loop .inv .2 ∙ laid-all _ _ _ _ h
+    laid-all _ _ _ _ h (c .before .loop .inv .2)
 
 pub apply-mask-spec : {M : Type 1} → statement M
 apply-mask-spec =

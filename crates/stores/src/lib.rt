@@ -1,0 +1,17 @@
+// Runs of bytes in lent stores, carried over from what the Rust's protocol/frame/mod.rs does with its buffers.
+ghost use mathlib.Core.Path.{_≡_};
+ghost use Prim.Native.Nat.{_+_, _≤_};
+ghost use lib.ListN.{length};
+ghost use Rattle.base.specs.Stores.{laid};
+
+// Lays a piece over the store from place `at` on.
+pub fn copy(piece: &[u8], store: &mut [u8], at: usize)
+    requires { ⌜ at + length (now piece) ≤ length (now store) ⌝ }
+    ensures { λ _. ⌜ now (store .exit) ≡ laid (now (store .entry)) at (now (piece .entry)) ⌝ }
+{
+    let mut i = 0;
+    while i < piece.len() {
+        store[at + i] = piece[i];
+        i += 1;
+    }
+}
