@@ -3,11 +3,11 @@ use mathlib.Core.Path.{_≡_, refl, sym, ap, ap₂, _∙_}
 use mathlib.Core.List.{List, [], _∷_, _++_}
 use Prim.Native.Nat.{ℕ, zero, suc, _+_, _*_, _/_, _%_, _^_, _<_, _≤_}
 use native.Mathlib.Nat.{mod-one, pow-suc, mul-comm, mul-assoc, zero-lt-suc, pow-le-pow-right}
-use native.Mathlib.Numerals.{add-one}
+use native.Mathlib.Numerals.{add-one, towards-suc}
 use native.Mathlib.Omega.{arith}
 use lib.Arith.{mod-mul}
 use lib.ListN.{length, getD, take, drop, length-append, length-drop}
-use lib.Seq.{take-suc, getD-drop, getD-take, length-take-le, take-at, drop-at}
+use lib.Seq.{take-suc, drop-cons, getD-drop, getD-take, length-take-le, take-at, drop-at}
 use lib.Dec.{lit<}
 use Rattle.base.specs.Bytes.{part, fromBig, toBig}
 
@@ -25,6 +25,19 @@ unfolding part
 part-more at j s h =
     let k : j < length (drop at s) = simp length-drop (omega arith) in
     rw (add-one, take-suc (drop at s) j 0, getD-drop)
+
+-- four bytes, one by one
+pub part-four : (at : ℕ) (s : List ℕ) → at + 4 ≤ length s
+    → getD s at 0 ∷ (getD s (at + 1) 0 ∷ (getD s (at + 2) 0 ∷ (getD s (at + 3) 0 ∷ []))) ≡ part at 4 s
+unfolding part
+part-four at s h =
+    simp towards-suc
+    (rw (
+      drop-cons s at 0 (omega arith),
+      drop-cons s (suc at) 0 (omega arith),
+      drop-cons s (suc (suc at)) 0 (omega arith),
+      drop-cons s (suc (suc (suc at))) 0 (omega arith),
+    ))
 
 -- the run that stands between two others
 pub part-between : (p s q : List ℕ) (at n : ℕ) → length p ≡ at → length s ≡ n → part at n (p ++ (s ++ q)) ≡ s

@@ -40,6 +40,14 @@ inRange f lo (suc n) t b h k =
     ⊎-elim (λ e. subst (λ (x : ℕ). T (f x)) e (both-left (f lo) (allFrom f (suc lo) n) t))
     (λ l. inRange f (suc lo) n (both-right (f lo) (allFrom f (suc lo) n) t) b l (omega arith)) (eq-or-lt-of-le h)
 
+-- the test passes at both truth values
+abbrev pub atBoth : (Bool → Bool) → Bool
+atBoth f = both (f true) (f false)
+
+pub at-bool : (f : Bool → Bool) → T (atBoth f) → (b : Bool) → T (f b)
+at-bool f t true = both-left (f true) (f false) t
+at-bool f t false = both-right (f true) (f false) t
+
 -- two functions on bytes that are equal at each of the 256
 pub same-on-bytes : (f g : ℕ → ℕ) → T (allFrom (λ b. eqb (f b) (g b)) 0 256) → (b : ℕ) → b < 256 → f b ≡ g b
 same-on-bytes f g t b h = eqb→eq (f b) (g b) (inRange (λ x. eqb (f x) (g x)) 0 256 t b (omega arith) (omega arith))

@@ -1,0 +1,4 @@
+pub mod Flags
+pub mod Lengths
+pub mod Closes
+pub mod Headers
