@@ -105,11 +105,11 @@ fn plain_size(length: u64) -> usize
 pub fn header_size(masked: bool, length: u64) -> usize
     ensures { λ r. ⌜ r ≡ headerSize masked length ⌝ }
 {
-    let size = plain_size(length);
+    let plain = plain_size(length);
     if masked {
-        return size + 4;
+        return plain + 4;
     }
-    size
+    plain
 }
 
 // Lays the header over the store from place `at` on, and gives the place behind it. The mask is written where the header says so.
