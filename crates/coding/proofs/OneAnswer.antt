@@ -12,17 +12,17 @@ use Rattle.coding.proofs.opcode.OpCode.from_u8.Reads as opcode-reads
 use Rattle.coding.proofs.opcode.OpCode.into_u8.Kinds as number-kinds
 use Rattle.coding.proofs.opcode.OpCode.into_u8.Reads as number-reads
 
-pub one-opcode : OneAnswer 0 opcode-kinds.ps opcode-kinds.r opcode-reads.Post
-one-opcode κs a r r′ e e′ p q = p ∙ sym q
+pub from-u8-one : OneAnswer 0 opcode-kinds.ps opcode-kinds.r opcode-reads.Post
+from-u8-one κs a r r′ e e′ p q = p ∙ sym q
 
-pub one-number : OneAnswer 0 number-kinds.ps number-kinds.r number-reads.Post
-one-number κs a r r′ e e′ p q = p ∙ sym q
+pub into-u8-one : OneAnswer 0 number-kinds.ps number-kinds.r number-reads.Post
+into-u8-one κs a r r′ e e′ p q = p ∙ sym q
 
-pub one-class : OneAnswer 0 class-kinds.ps class-kinds.r class-reads.Post
-one-class κs a r r′ e e′ p q = p ∙ sym q
+pub from-u16-one : OneAnswer 0 class-kinds.ps class-kinds.r class-reads.Post
+from-u16-one κs a r r′ e e′ p q = p ∙ sym q
 
-pub one-allowed-class : OneAnswer 0 allowed-class-kinds.ps allowed-class-kinds.r allowed-class-reads.Post
-one-allowed-class κs a r r′ e e′ p q = p ∙ sym q
+pub class-is-allowed-one : OneAnswer 0 allowed-class-kinds.ps allowed-class-kinds.r allowed-class-reads.Post
+class-is-allowed-one κs a r r′ e e′ p q = p ∙ sym q
 
-pub one-allowed : OneAnswer 0 allowed-kinds.ps allowed-kinds.r allowed-reads.Post
-one-allowed κs a r r′ e e′ p q = p ∙ sym q
+pub is-allowed-one : OneAnswer 0 allowed-kinds.ps allowed-kinds.r allowed-reads.Post
+is-allowed-one κs a r r′ e e′ p q = p ∙ sym q
