@@ -1,7 +1,9 @@
 pub mod Promise
+pub mod Choice
 pub mod Range
 pub mod Arms
 pub mod Table
 pub mod Keys
+pub mod Tests
 pub mod Bytes
 pub mod Stores

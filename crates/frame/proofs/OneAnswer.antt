@@ -16,6 +16,8 @@ use Rattle.frame.proofs.header.mask_of.Kinds as mask-of
 use Rattle.frame.proofs.header.mask_of.Reads as mask-of-reads
 use Rattle.frame.proofs.header.parse.Kinds as parse
 use Rattle.frame.proofs.header.parse.Reads as parse-reads
+use Rattle.frame.proofs.header.size_by.Kinds as size-by
+use Rattle.frame.proofs.header.size_by.Reads as size-by-reads
 
 pub parse-one : OneAnswer 1 parse.ps parse.r parse-reads.Post
 parse-one κs a z z′ e e′ p q = p ∙ sym q
@@ -25,6 +27,9 @@ mask-of-one κs a z z′ e e′ p q = p ∙ sym q
 
 pub header-size-one : OneAnswer 0 header-size.ps header-size.r header-size-reads.Post
 header-size-one κs a z z′ e e′ p q = p ∙ sym q
+
+pub size-by-one : OneAnswer 0 size-by.ps size-by.r size-by-reads.Post
+size-by-one κs a z z′ e e′ p q = p .0 ∙ sym (q .0)
 
 pub format-one : OneAnswer 1 format.ps format.r format-reads.Post
 format-one κs a z z′ e e′ p q = p .0 ∙ sym (q .0)

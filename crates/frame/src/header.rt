@@ -26,7 +26,7 @@ pub enum Parsed {
 }
 
 // The header's size, by its second byte.
-fn size_by(second: u8) -> usize
+pub fn size_by(second: u8) -> usize
     ensures { λ r. ⌜ (r ≡ sizeBy second) × (r ≤ 14) ⌝ }
 {
     let split = crate::bits::split_second(second);

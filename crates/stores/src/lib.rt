@@ -1,7 +1,8 @@
 // Runs of bytes in lent stores, carried over from what the Rust's protocol/frame/mod.rs does with its buffers.
 ghost use mathlib.Core.Path.{_≡_};
-ghost use Prim.Native.Nat.{_+_, _≤_};
+ghost use Prim.Native.Nat.{_+_, _-_, _≤_};
 ghost use lib.ListN.{length};
+ghost use Rattle.base.specs.Bytes.{part};
 ghost use Rattle.base.specs.Stores.{laid};
 
 // Lays a piece over the store from place `at` on.
@@ -13,5 +14,17 @@ pub fn copy(piece: &[u8], store: &mut [u8], at: usize)
     while i < piece.len() {
         store[at + i] = piece[i];
         i += 1;
+    }
+}
+
+// Takes the first n of the held bytes away and moves the rest to the front; every other byte stays.
+pub fn to_front(store: &mut [u8], n: usize, held: usize)
+    requires { ⌜ (n ≤ held) × (held ≤ length (now store)) ⌝ }
+    ensures { λ _. ⌜ now (store .exit) ≡ laid (now (store .entry)) 0 (part n (held - n) (now (store .entry))) ⌝ }
+{
+    let mut moved = 0;
+    while moved < held - n {
+        store[moved] = store[n + moved];
+        moved += 1;
     }
 }

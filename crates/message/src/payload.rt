@@ -1,0 +1,121 @@
+// Payload bytes: unmasked into the store that the header names, counted, and, where they are text, checked as they come.
+use frame::header::FrameHeader;
+use session::Answer;
+use session::Incoming;
+use session::Settings;
+ghost use mathlib.Core.Path.{_≡_};
+ghost use Prim.Native.Nat.{_+_, _≤_};
+ghost use lib.ListN.{length, take};
+ghost use Rattle.base.specs.Bytes.{part};
+ghost use Rattle.base.specs.Stores.{laid};
+ghost use Rattle.base.specs.Table.{pick};
+ghost use Rattle.frame.specs.Header.{maskIn};
+ghost use Rattle.mask.specs.Mask.{masked};
+ghost use Rattle.base.specs.Tests.{firstOf};
+ghost use Rattle.session.specs.Frames.{kept, frame, headerTests, progressNow};
+ghost use Rattle.session.specs.Reading.{world, counts, stored, keep};
+ghost use Rattle.utf8.specs.Progress.{progressAfter};
+
+// A header byte more.
+pub(crate) fn keep_byte(incoming: Incoming, byte: u8) -> Incoming
+    requires { ⌜ incoming .kept + 1 ≤ 14 ⌝ }
+    ensures { λ r. ⌜ r ≡ keep incoming byte ⌝ }
+{
+    let at = incoming.kept;
+    let mut next = incoming;
+    next.header[at] = byte;
+    next.kept = at + 1;
+    next
+}
+
+fn count_on(incoming: Incoming, n: usize, progress: u8) -> Incoming
+    requires { ⌜ incoming .counted + n ≤ 18446744073709551615 ⌝ }
+    ensures { λ r. ⌜ r ≡ counts incoming n progress ⌝ }
+{
+    let mut next = incoming;
+    next.counted = incoming.counted + n;
+    next.progress = progress;
+    next
+}
+
+// The progress of the message's check; a new message starts it.
+pub(crate) fn progress_of(incoming: Incoming) -> u8
+    ensures { λ r. ⌜ r ≡ progressNow incoming ⌝ }
+{
+    if incoming.begun {
+        return incoming.progress;
+    }
+    if 0 < incoming.counted {
+        return incoming.progress;
+    }
+    utf8::START
+}
+
+fn mask_kept(incoming: Incoming) -> [u8; 4]
+    requires { ⌜ incoming .kept ≤ 14 ⌝ }
+    ensures { λ r. ⌜ r ≡ maskIn (kept incoming) ⌝ }
+{
+    let header = incoming.header;
+    let n = incoming.kept;
+    frame::header::mask_of(&header[..n])
+}
+
+// A run from the payload's byte `position` on, unmasked where the frame is masked.
+fn put_plain(masking: bool, mask: [u8; 4], position: usize, run: &[u8], store: &mut [u8], at: usize)
+    requires { ⌜ at + length (now run) ≤ length (now store) ⌝ }
+    ensures { λ _. ⌜ now (store .exit) ≡ laid (now (store .entry)) at (pick masking (masked mask position (now (run .entry))) (now (run .entry))) ⌝ }
+{
+    if masking {
+        mask::apply_mask(run, store, at, mask, position);
+    } else {
+        stores::copy(run, store, at);
+    }
+}
+
+// The progress behind the n bytes that were laid at a place, where they are text.
+fn checked(text: bool, incoming: Incoming, message: &[u8], at: usize, n: usize) -> u8
+    requires { ⌜ at + n ≤ length (now message) ⌝ }
+    ensures { λ r. ⌜ r ≡ pick text (progressAfter (progressNow incoming) (part at n (now (message .entry)))) (incoming .progress) ⌝ }
+{
+    if text {
+        let scanned = utf8::scan(progress_of(incoming), &message[at..at + n]);
+        return scanned.progress;
+    }
+    incoming.progress
+}
+
+// A run of payload bytes.
+pub(crate) fn store_run(
+    settings: Settings,
+    state: u8,
+    header: FrameHeader,
+    incoming: Incoming,
+    run: &[u8],
+    message: &mut [u8],
+    control: &mut [u8],
+) -> Incoming
+    requires { ⌜ header ≡ frame incoming ⌝ }
+    requires { ⌜ firstOf (headerTests settings header) ≡ 0 ⌝ }
+    requires { ⌜ incoming .kept ≤ 14 ⌝ }
+    requires { ⌜ incoming .counted + length (now run) ≤ header .length ⌝ }
+    requires { ⌜ settings .message ≤ length (now message) ⌝ }
+    requires { ⌜ 125 ≤ length (now control) ⌝ }
+    ensures { λ r. ⌜ world r (now (message .exit)) (now (control .exit)) Answer.More ≡ stored settings state (world incoming (now (message .entry)) (now (control .entry)) Answer.More) (now (run .entry)) ⌝ }
+{
+    let n = run.len();
+    if crate::doom::doom_of(settings, state, header, incoming) != 0 {
+        return count_on(incoming, n, incoming.progress);
+    }
+    let mask = mask_kept(incoming);
+    let counted = incoming.counted;
+    let opcode = header.opcode;
+    if crate::kinds::is_control(opcode) {
+        put_plain(header.masked, mask, counted, run, control, counted);
+        return count_on(incoming, n, incoming.progress);
+    }
+    let at = crate::doom::bytes_before(incoming) + counted;
+    put_plain(header.masked, mask, counted, run, message, at);
+    let text = crate::kinds::is_text_code(incoming.text, opcode);
+    let progress = checked(text, incoming, message, at, n);
+    count_on(incoming, n, progress)
+}

@@ -1,0 +1,13 @@
+pub mod Numbers
+pub mod Headers
+pub mod Frames
+pub mod Bytes
+pub mod Parts
+pub mod Moves
+pub mod Passing
+pub mod InRangeStays
+pub mod Feeding
+pub mod Again
+pub mod OneCall
+pub mod AnyCutting
+pub mod WorkedStream

@@ -1,0 +1,106 @@
+-- Any two results that meet a promise are equal, for each public function.
+use mathlib.Core.Path.{sym, ap, _∙_}
+use denote.Ref.{now}
+use Rattle.base.proofs.Promise.{OneAnswer, OneStore, OnePart}
+use Rattle.session.specs.Calls.{Sending}
+use Rattle.session.specs.Replies.{Out}
+use Rattle.writer.proofs.output.held.Kinds as held
+use Rattle.writer.proofs.output.held.Reads as held-reads
+use Rattle.writer.proofs.output.held_number.Kinds as held-number
+use Rattle.writer.proofs.output.held_number.Reads as held-number-reads
+use Rattle.writer.proofs.output.take.Kinds as take
+use Rattle.writer.proofs.output.take.Reads as take-reads
+use Rattle.writer.proofs.output.waits.Kinds as waits
+use Rattle.writer.proofs.output.waits.Reads as waits-reads
+use Rattle.writer.proofs.reply.is_close.Kinds as is-close
+use Rattle.writer.proofs.reply.is_close.Reads as is-close-reads
+use Rattle.writer.proofs.reply.is_waiting.Kinds as is-waiting
+use Rattle.writer.proofs.reply.is_waiting.Reads as is-waiting-reads
+use Rattle.writer.proofs.reply.make_reply.Kinds as make-reply
+use Rattle.writer.proofs.reply.make_reply.Reads as make-reply-reads
+use Rattle.writer.proofs.reply.move_reply.Kinds as move-reply
+use Rattle.writer.proofs.reply.move_reply.Reads as move-reply-reads
+use Rattle.writer.proofs.reply.reply_fits.Kinds as reply-fits
+use Rattle.writer.proofs.reply.reply_fits.Reads as reply-fits-reads
+use Rattle.writer.proofs.reply.with_pong.Kinds as with-pong
+use Rattle.writer.proofs.reply.with_pong.Reads as with-pong-reads
+use Rattle.writer.proofs.send.binary.Kinds as binary
+use Rattle.writer.proofs.send.binary.Reads as binary-reads
+use Rattle.writer.proofs.send.close.Kinds as close
+use Rattle.writer.proofs.send.close.Reads as close-reads
+use Rattle.writer.proofs.send.ping.Kinds as ping
+use Rattle.writer.proofs.send.ping.Reads as ping-reads
+use Rattle.writer.proofs.send.pong.Kinds as pong
+use Rattle.writer.proofs.send.pong.Reads as pong-reads
+use Rattle.writer.proofs.send.text.Kinds as text
+use Rattle.writer.proofs.send.text.Reads as text-reads
+
+-- ---- sending: what is answered, with the session, and the output store, its last argument
+pub text-one : OneAnswer 2 text.ps text.r text-reads.Post
+text-one κs a z z′ e e′ p q = ap (λ (x : Sending). x .handed) (p ∙ sym q)
+
+pub text-one-store : OneStore 2 text.ps text.r (λ κs e. now (e .1 .1 .1 .0)) text-reads.Post
+text-one-store κs a z z′ e e′ p q = ap (λ (x : Sending). x .output) (p ∙ sym q)
+
+pub binary-one : OneAnswer 2 binary.ps binary.r binary-reads.Post
+binary-one κs a z z′ e e′ p q = ap (λ (x : Sending). x .handed) (p ∙ sym q)
+
+pub binary-one-store : OneStore 2 binary.ps binary.r (λ κs e. now (e .1 .1 .1 .0)) binary-reads.Post
+binary-one-store κs a z z′ e e′ p q = ap (λ (x : Sending). x .output) (p ∙ sym q)
+
+pub ping-one : OneAnswer 2 ping.ps ping.r ping-reads.Post
+ping-one κs a z z′ e e′ p q = ap (λ (x : Sending). x .handed) (p ∙ sym q)
+
+pub ping-one-store : OneStore 2 ping.ps ping.r (λ κs e. now (e .1 .1 .1 .0)) ping-reads.Post
+ping-one-store κs a z z′ e e′ p q = ap (λ (x : Sending). x .output) (p ∙ sym q)
+
+pub close-one : OneAnswer 2 close.ps close.r close-reads.Post
+close-one κs a z z′ e e′ p q = ap (λ (x : Sending). x .handed) (p ∙ sym q)
+
+pub close-one-store : OneStore 2 close.ps close.r (λ κs e. now (e .1 .1 .1 .1 .0)) close-reads.Post
+close-one-store κs a z z′ e e′ p q = ap (λ (x : Sending). x .output) (p ∙ sym q)
+
+pub pong-one : OneAnswer 2 pong.ps pong.r pong-reads.Post
+pong-one κs a z z′ e e′ p q = ap (λ (x : Sending). x .handed) (p ∙ sym q)
+
+pub pong-one-store : OneStore 2 pong.ps pong.r (λ κs e. now (e .1 .1 .1 .0)) pong-reads.Post
+pong-one-store κs a z z′ e e′ p q = ap (λ (x : Sending). x .output) (p ∙ sym q)
+
+-- ---- handing over
+pub waits-one : OneAnswer 0 waits.ps waits.r waits-reads.Post
+waits-one κs a z z′ e e′ p q = p ∙ sym q
+
+pub held-number-one : OneAnswer 1 held-number.ps held-number.r held-number-reads.Post
+held-number-one κs a z z′ e e′ p q = p ∙ sym q
+
+-- the bytes that the part shows
+pub held-one : OnePart 1 held.ps held.r (λ κs z. now z) held-reads.Post
+held-one κs a z z′ e e′ p q = p ∙ sym q
+
+pub take-one : OneAnswer 1 take.ps take.r take-reads.Post
+take-one κs a z z′ e e′ p q = ap (λ (x : Sending). x .handed) (p ∙ sym q)
+
+pub take-one-store : OneStore 1 take.ps take.r (λ κs e. now (e .1 .1 .0)) take-reads.Post
+take-one-store κs a z z′ e e′ p q = ap (λ (x : Sending). x .output) (p ∙ sym q)
+
+-- ---- the waiting reply
+pub make-reply-one : OneAnswer 1 make-reply.ps make-reply.r make-reply-reads.Post
+make-reply-one κs a z z′ e e′ p q = p ∙ sym q
+
+pub is-close-one : OneAnswer 0 is-close.ps is-close.r is-close-reads.Post
+is-close-one κs a z z′ e e′ p q = p ∙ sym q
+
+pub with-pong-one : OneAnswer 1 with-pong.ps with-pong.r with-pong-reads.Post
+with-pong-one κs a z z′ e e′ p q = p ∙ sym q
+
+pub reply-fits-one : OneAnswer 0 reply-fits.ps reply-fits.r reply-fits-reads.Post
+reply-fits-one κs a z z′ e e′ p q = p ∙ sym q
+
+pub is-waiting-one : OneAnswer 0 is-waiting.ps is-waiting.r is-waiting-reads.Post
+is-waiting-one κs a z z′ e e′ p q = p ∙ sym q
+
+pub move-reply-one : OneAnswer 1 move-reply.ps move-reply.r move-reply-reads.Post
+move-reply-one κs a z z′ e e′ p q = ap (λ (x : Out). x .session) (p ∙ sym q)
+
+pub move-reply-one-store : OneStore 1 move-reply.ps move-reply.r (λ κs e. now (e .1 .1 .0)) move-reply-reads.Post
+move-reply-one-store κs a z z′ e e′ p q = ap (λ (x : Out). x .output) (p ∙ sym q)

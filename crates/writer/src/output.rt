@@ -1,0 +1,93 @@
+// The held bytes: shown, and handed over.
+use session::Handed;
+use session::Sent;
+use session::Session;
+ghost use mathlib.Core.Path.{_≡_};
+ghost use mathlib.Core.Bool.{not};
+ghost use mathlib.Core.List.{_∷_, []};
+ghost use lib.Dec.{ltb};
+ghost use Rattle.base.specs.Tests.{either, _when_, firstOf};
+ghost use Rattle.session.specs.Calls.{sending, takeCall, heldNumber, heldPart, waitsCall};
+ghost use Rattle.session.specs.Range.{inRange};
+
+// Whether a reply waits.
+pub fn waits(session: Session) -> bool
+    ensures { λ r. ⌜ r ≡ waitsCall session ⌝ }
+{
+    let reply = session.reply;
+    let waiting = reply.waiting;
+    crate::reply::is_waiting(waiting)
+}
+
+// The number that a session and an output store of this size owe, 20 before 1, or 0.
+pub(crate) fn owed(session: Session, size: usize) -> u8
+    ensures { λ r. ⌜ r ≡ firstOf ((20 when not (inRange session)) ∷ (1 when either (ltb size 131) (ltb size (session .held))) ∷ []) ⌝ }
+{
+    let settings = session.settings;
+    let incoming = session.incoming;
+    let reply = session.reply;
+    let waiting = reply.waiting;
+    let held = session.held;
+    if !session::range::in_range(
+        settings,
+        session.state,
+        session.refusal,
+        incoming,
+        waiting,
+        reply.length,
+    ) {
+        return 20;
+    }
+    if size < 131 {
+        return 1;
+    }
+    if size < held {
+        return 1;
+    }
+    0
+}
+
+// The number that showing the held bytes would owe, or 0.
+pub fn held_number(session: Session, output: &[u8]) -> u8
+    ensures { λ r. ⌜ r ≡ heldNumber session (now (output .entry)) ⌝ }
+{
+    owed(session, output.len())
+}
+
+// The held bytes, as a part of the output store; none where a number is owed.
+pub fn held(session: Session, output: &[u8]) -> &[u8]
+    ensures { λ r. ⌜ now r ≡ heldPart session (now (output .entry)) ⌝ }
+{
+    let count = session.held;
+    if held_number(session, output) != 0 {
+        return &output[..0];
+    }
+    &output[..count]
+}
+
+// Takes the first n held bytes away and moves the rest to the front.
+pub fn take(session: Session, n: usize, output: &mut [u8]) -> Handed
+    ensures { λ r. ⌜ sending (r .sent) (r .session) (now (output .exit)) ≡ takeCall session n (now (output .entry)) ⌝ }
+{
+    let held = session.held;
+    if held < n {
+        return Handed {
+            sent: Sent::Refused(20),
+            session,
+        };
+    }
+    let number = owed(session, output.len());
+    if number != 0 {
+        return Handed {
+            sent: Sent::Refused(number),
+            session,
+        };
+    }
+    stores::to_front(output, n, held);
+    let mut taken = session;
+    taken.held = held - n;
+    Handed {
+        sent: Sent::Done,
+        session: taken,
+    }
+}
