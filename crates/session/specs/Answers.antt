@@ -2,7 +2,9 @@
 -- refused." Its kind by its place in that list, and its value: a length, or the number of a refusal.
 use mathlib.Core.List.{List, []}
 use Prim.Native.Nat.{ℕ}
-use lib.ListN.{take}
+use lib.Dec.{eqb, ltb}
+use lib.ListN.{length, take}
+use Rattle.base.specs.Table.{pick}
 use Rattle.session.specs.declared.Answer.{Answer}
 use Rattle.session.specs.declared.Answer.the-variants.{More, Text, Binary, Ping, Pong, Close, Closed, Refused}
 
@@ -36,3 +38,21 @@ shown (Pong n) message control = take n control
 shown (Close n) message control = take n control
 shown Closed message control = []
 shown (Refused k) message control = []
+
+-- ---- the part that is asked for: "a lent store is below its least size", 1, where the event is longer than the store that its kind names.
+-- A part can't be a refusal as well, so the number that would be owed stands beside it, and the part is empty then
+unfoldable pub beyond : List ℕ → ℕ → ℕ
+beyond store n = pick (ltb (length store) n) 1 0
+
+abbrev pub partNumber : Answer → List ℕ → List ℕ → ℕ
+partNumber More message control = 0
+partNumber (Text n) message control = beyond message n
+partNumber (Binary n) message control = beyond message n
+partNumber (Ping n) message control = beyond control n
+partNumber (Pong n) message control = beyond control n
+partNumber (Close n) message control = beyond control n
+partNumber Closed message control = 0
+partNumber (Refused k) message control = 0
+
+unfoldable pub partOf : Answer → List ℕ → List ℕ → List ℕ
+partOf a message control = pick (eqb (partNumber a message control) 0) (shown a message control) []

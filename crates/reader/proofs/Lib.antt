@@ -1,0 +1,5 @@
+pub mod Replying
+pub mod Turns
+pub mod Whole
+pub mod Parts
+pub mod OneAnswer
