@@ -5,7 +5,7 @@ use mathlib.Core.Logic.{⊎-elim}
 use Prim.Native.Nat.{ℕ, zero, suc, _+_, _<_, _≤_}
 use native.Mathlib.Nat.{eq-or-lt-of-le}
 use native.Mathlib.Omega.{arith}
-use lib.Dec.{T, eqb, eqb→eq}
+use lib.Dec.{T}
 
 abbrev pub both : Bool → Bool → Bool
 both true b = b
@@ -47,10 +47,3 @@ atBoth f = both (f true) (f false)
 pub at-bool : (f : Bool → Bool) → T (atBoth f) → (b : Bool) → T (f b)
 at-bool f t true = both-left (f true) (f false) t
 at-bool f t false = both-right (f true) (f false) t
-
--- two functions on bytes that are equal at each of the 256
-pub same-on-bytes : (f g : ℕ → ℕ) → T (allFrom (λ b. eqb (f b) (g b)) 0 256) → (b : ℕ) → b < 256 → f b ≡ g b
-same-on-bytes f g t b h = eqb→eq (f b) (g b) (inRange (λ x. eqb (f x) (g x)) 0 256 t b (omega arith) (omega arith))
-
-pub same-test-on-bytes : (f g : ℕ → Bool) → T (allFrom (λ b. same (f b) (g b)) 0 256) → (b : ℕ) → b < 256 → f b ≡ g b
-same-test-on-bytes f g t b h = same-eq (f b) (g b) (inRange (λ x. same (f x) (g x)) 0 256 t b (omega arith) (omega arith))
