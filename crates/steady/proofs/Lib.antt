@@ -10,4 +10,5 @@ pub mod Feeding
 pub mod Again
 pub mod OneCall
 pub mod AnyCutting
+pub mod Taking
 pub mod WorkedStream
