@@ -27,7 +27,7 @@ use Rattle.steady.proofs.Headers.{never}
 use Rattle.steady.proofs.Passing.{lateClose}
 
 -- ---- a frame's length does not hang on its mask
-length-encoded : (client : Bool) (op : OpCode) (mask p : List ℕ) → length mask ≡ 4
+pub length-encoded : (client : Bool) (op : OpCode) (mask p : List ℕ) → length mask ≡ 4
     → length (encoded client op mask p) ≡ headerSize client (length p) + length p
 unfolding encoded frameHeader
 length-encoded client op mask p e =

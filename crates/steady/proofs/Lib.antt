@@ -11,4 +11,5 @@ pub mod Again
 pub mod OneCall
 pub mod AnyCutting
 pub mod Taking
+pub mod AnyTaking
 pub mod WorkedStream

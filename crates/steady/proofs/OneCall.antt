@@ -86,29 +86,29 @@ conclude-more (Close n) s control = close-more s control n
 conclude-more Closed s control = refl
 conclude-more (Refused k) s control = refl
 
--- what has come, and the settings, stay
-abbrev Same : Session → Session → Type 0
-Same s u = (u .settings ≡ s .settings) × (u .incoming ≡ s .incoming)
+-- what has come, the settings and what is held stay
+abbrev pub Same : Session → Session → Type 0
+Same s u = (u .settings ≡ s .settings) × (u .incoming ≡ s .incoming) × (u .held ≡ s .held)
 
 close-same : (s : Session) (control : List ℕ) (n : ℕ) → Same s (closeCame s control n .session)
 unfolding closeCame
 close-same s control n =
-    by-test (isActive (s .state)) (λ t. rw t (refl, refl))
-    (λ t. by-test (isClosedByUs (s .state)) (λ u. rw (t, u) (refl, refl)) (λ u. rw (t, u) (refl, refl)))
+    by-test (isActive (s .state)) (λ t. rw t (refl, refl, refl))
+    (λ t. by-test (isClosedByUs (s .state)) (λ u. rw (t, u) (refl, refl, refl)) (λ u. rw (t, u) (refl, refl, refl)))
 
 ping-same : (s : Session) (control : List ℕ) (n : ℕ) → Same s (pingCame s control n .session)
 unfolding pingCame
-ping-same s control n = by-test (isActive (s .state)) (λ t. rw t (refl, refl)) (λ t. rw t (refl, refl))
+ping-same s control n = by-test (isActive (s .state)) (λ t. rw t (refl, refl, refl)) (λ t. rw t (refl, refl, refl))
 
-conclude-same : (a : Answer) (s : Session) (control : List ℕ) → Same s (conclude a s control .session)
-conclude-same More s control = (refl, refl)
-conclude-same (Text n) s control = (refl, refl)
-conclude-same (Binary n) s control = (refl, refl)
+pub conclude-same : (a : Answer) (s : Session) (control : List ℕ) → Same s (conclude a s control .session)
+conclude-same More s control = (refl, refl, refl)
+conclude-same (Text n) s control = (refl, refl, refl)
+conclude-same (Binary n) s control = (refl, refl, refl)
 conclude-same (Ping n) s control = ping-same s control n
-conclude-same (Pong n) s control = (refl, refl)
+conclude-same (Pong n) s control = (refl, refl, refl)
 conclude-same (Close n) s control = close-same s control n
-conclude-same Closed s control = (refl, refl)
-conclude-same (Refused k) s control = (refl, refl)
+conclude-same Closed s control = (refl, refl, refl)
+conclude-same (Refused k) s control = (refl, refl, refl)
 
 -- ---- the three ways of a call
 module _ (s : Session) (masks : Masks) (message control output : List ℕ) where

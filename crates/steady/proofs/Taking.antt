@@ -73,7 +73,7 @@ module _ (s : Session) (piece : List ℕ) (end : Bool) (message control output :
       by-test (both (isServer (s .settings)) (isPeerClosed (s .state))) (λ t. rw t) (λ t. rw t bytes-apart)
 
 -- ---- the tests of a call that is not hindered: those of the state and of the refusal
-abbrev calmTests : ℕ → ℕ → List Test
+abbrev pub calmTests : ℕ → ℕ → List Test
 calmTests state refusal = (2 when isTerminated state) ∷ (refusal when not (eqb refusal 0)) ∷ []
 
 calm-number : (a b c t e : Bool) (k : ℕ) → isHindrance (pick a 20 (pick b 1 (pick c 2 (pick t k (pick e 19 0))))) ≡ false
@@ -87,13 +87,13 @@ calm-number false false false false true k h = never refl h
 calm-number false false false false false k h = refl
 
 -- a call on the session apart, with no output and no reply
-abbrev calm : Session → List ℕ → Bool → List ℕ → List ℕ → Read
+abbrev pub calm : Session → List ℕ → Bool → List ℕ → List ℕ → Read
 calm s piece end message control =
     let n : ℕ = firstOf (calmTests (s .state) (s .refusal)) in
     pick (eqb n 0) (apartRead (readOn s piece end message control [])) (read (turn (Refused n) 0 s) message control [])
 
 module _ (s : Session) (masks : Masks) (message control output : List ℕ) where
-  abbrev number : ℕ
+  abbrev pub number : ℕ
   number = firstOf (readTests s (masks .first) message control output)
 
   abbrev v : Out
@@ -103,7 +103,7 @@ module _ (s : Session) (masks : Masks) (message control output : List ℕ) where
   unfolding apart
   move-apart = by-move (λ u. apart u ≡ apart s) s (masks .first) output (λ n. refl) refl
 
-  clear-number : isHindrance number ≡ false → number ≡ firstOf (calmTests (s .state) (s .refusal))
+  pub clear-number : isHindrance number ≡ false → number ≡ firstOf (calmTests (s .state) (s .refusal))
   unfolding readTests firstOf
   clear-number =
       calm-number (not (inRange s)) (storesShort s message control output) (isTerminated (s .state)) (not (eqb (s .refusal) 0))
@@ -113,11 +113,11 @@ module _ (s : Session) (masks : Masks) (message control output : List ℕ) where
     abbrev call : Read
     call = readCall s piece end masks message control output
 
-    answer-number : hindered (call .turn .answer) ≡ false → isHindrance number ≡ false
+    pub answer-number : hindered (call .turn .answer) ≡ false → isHindrance number ≡ false
     unfolding readCall isHindrance
     answer-number = by-test (eqb number 0) (λ t h. ap isHindrance (eqb-true number 0 t)) (λ t. rw t (λ h. h))
 
-    number-calm : isHindrance number ≡ false → apartRead call ≡ calm (apart s) piece end message control
+    pub number-calm : isHindrance number ≡ false → apartRead call ≡ calm (apart s) piece end message control
     unfolding readCall apartRead apart
     number-calm h =
         let n : ℕ = firstOf (calmTests (s .state) (s .refusal)) in
@@ -130,7 +130,7 @@ module _ (s : Session) (masks : Masks) (message control output : List ℕ) where
         ∙ ap (λ (u : Session). apartRead (readOn u piece end message control [])) move-apart))
         (λ t. rw t)
 
-    pub call-calm : hindered (call .turn .answer) ≡ false → apartRead call ≡ calm (apart s) piece end message control
+    call-calm : hindered (call .turn .answer) ≡ false → apartRead call ≡ calm (apart s) piece end message control
     call-calm h = number-calm (answer-number h)
 
 -- ---- one call: whatever waits, is held or was taken
