@@ -23,9 +23,10 @@ use Rattle.session.specs.Reading.{World, At, isMore}
 use Rattle.session.specs.Replies.{fits, isCloseReply, noReply, replyCode, replyFrame, Out, appended, moveReply, Concluded, conclude}
 use Rattle.session.specs.Session.{isServer, isClient, isPeerClosed, isTerminated, withState, withIncoming, withReply, withHeld}
 use Rattle.session.proofs.Choices.{both-none, both-parts}
+use Rattle.session.proofs.Fold.{is-more}
 use Rattle.steady.specs.Shape.{Shaped}
 use Rattle.steady.specs.Cutting.{isEvent, Seen, Run, noted, landed, behind, callAt, readOnce, readAll, readPiece, readPieces, joined}
-use Rattle.steady.specs.Taking.{apart, apartRead, apartRun, isHindrance}
+use Rattle.steady.specs.Taking.{apart, apartRead, apartRun, isHindrance, hindered, unhindered, Caller, Flow, takenRun, takenBytes, takeEach, flowCall, flowOnce, flowAll, flowPiece, flowPieces}
 use Rattle.steady.proofs.Again.{length-encoded, Room, stores-room, room-stores}
 use Rattle.steady.proofs.Headers.{never}
 use Rattle.steady.proofs.InRangeStays.{fed, range-stays-read, shape-stays-read}
@@ -33,7 +34,7 @@ use Rattle.steady.proofs.Moves.{length-take-most}
 use Rattle.steady.proofs.OneCall.{conclude-same}
 use Rattle.steady.proofs.Parts.{in-range, range-held, range-reply}
 use Rattle.steady.proofs.Passing.{lateClose}
-use Rattle.steady.proofs.Taking.{calmTests, calm, number, clear-number, answer-number, number-calm}
+use Rattle.steady.proofs.Taking.{calmTests, calm, number, clear-number, answer-number, number-calm, taking-keeps}
 
 -- ---- a reply's frame has at most 131 bytes
 size-small : (client : Bool) (n : ℕ) → n ≤ 125 → headerSize client n ≤ 6
@@ -225,3 +226,129 @@ module _ (j : ℕ) (run beside : Run) (masks : Masks) (f : Follows (suc j) run b
           least = omega (arith, grows .1, f .least);
           room = omega (arith, grows, f .room);
         }
+
+-- ---- takes change nothing of the run apart
+take-apart : (run : Run) (n : ℕ) → apartRun (takenRun run n) ≡ apartRun run
+unfolding takenRun apartRun
+take-apart run n =
+    λ i.
+    record {
+      session = taking-keeps (run .session) n (run .output) i;
+      message = run .message;
+      control = run .control;
+      output = [];
+      place = run .place;
+      trace = run .trace;
+      over = run .over;
+    }
+
+takes-apart : (x : Flow) (ns : List ℕ) → apartRun (takeEach x ns .run) ≡ apartRun (x .run)
+unfolding takeEach
+takes-apart x [] = refl
+takes-apart x (n ∷ ns) =
+    takes-apart (record { run = takenRun (x .run) n; calls = x .calls; put = x .put ++ takenBytes (x .run) n }) ns ∙ take-apart (x .run) n
+
+-- ---- a trace with no such refusal was so before the call, and the call's answer was none
+not-clear : (b : Bool) → not b ≡ true → b ≡ false
+not-clear true e = sym e
+not-clear false e = refl
+
+append-clear : (l : List Seen) (x : Seen) → unhindered (l ++ (x ∷ [])) ≡ true → (unhindered l ≡ true) × (hindered (x .answer) ≡ false)
+unfolding unhindered
+append-clear [] x h = (refl, not-clear (hindered (x .answer)) (both-parts (not (hindered (x .answer))) true h .0))
+append-clear (y ∷ l) x h =
+    let p = both-parts (not (hindered (y .answer))) (unhindered (l ++ (x ∷ []))) h in
+    let q = append-clear l x (p .1) in
+    (rw (p .0) (q .0), q .1)
+
+noted-clear : (trace : List Seen) (a : Answer) (place : ℕ) → unhindered (noted trace a place) ≡ true → (unhindered trace ≡ true) × (hindered a ≡ false)
+unfolding noted
+noted-clear trace a place =
+    by-test (isMore a) (λ t. rw t (λ h. (h, ap hindered (is-more a t)))) (λ t. rw t (append-clear trace (record { answer = a; place = place })))
+
+module _ (c : Caller) where
+  -- ---- one call and the takes behind it
+  module _ (x : Flow) (piece : List ℕ) (end : Bool) where
+    once-apart : apartRun (flowOnce c x piece end .run) ≡ apartRun (readOnce (λ place. c .masks (x .calls)) (x .run) piece end)
+    unfolding flowOnce
+    once-apart =
+        let run : Run = readOnce (λ place. c .masks (x .calls)) (x .run) piece end in
+        takes-apart (record { run = run; calls = x .calls + 1; put = x .put }) (c .takes (x .calls) run)
+
+    once-clear : unhindered (flowOnce c x piece end .run .trace) ≡ true
+        → (unhindered (x .run .trace) ≡ true) × (hindered (flowCall c x piece end .turn .answer) ≡ false)
+    unfolding apartRun readOnce behind landed flowCall
+    once-clear h =
+        let r : Read = flowCall c x piece end in
+        noted-clear (x .run .trace) (r .turn .answer) (x .run .place + r .turn .taken)
+        (sym (ap (λ (r : Run). unhindered (r .trace)) once-apart) ∙ h)
+
+  all-clear : (k : ℕ) (x : Flow) (piece : List ℕ) (end : Bool) → unhindered (flowAll k c x piece end .run .trace) ≡ true → unhindered (x .run .trace) ≡ true
+  unfolding flowAll
+  all-clear zero x piece end = λ h. h
+  all-clear (suc k) x piece end =
+      by-test (isEvent (flowCall c x piece end .turn .answer))
+      (λ t.
+      rw t
+      (λ h.
+      once-clear x piece end (all-clear k (flowOnce c x piece end) (drop (flowCall c x piece end .turn .taken) piece) end h) .0))
+      (λ t. rw t (λ h. once-clear x piece end h .0))
+
+  -- ---- the run beside it
+  less : (k j : ℕ) (run beside : Run) → j ≤ k → Follows k run beside → Follows j run beside
+  less k j run beside h f =
+      record { same = f .same; shaped = f .shaped; short = f .short; least = f .least; room = omega (arith, f .room) }
+
+  flow-follows : (j : ℕ) (x : Flow) (beside : Run) (piece : List ℕ) (end : Bool) → Follows (suc j) (x .run) beside
+      → hindered (flowCall c x piece end .turn .answer) ≡ false
+      → (apartRead (flowCall c x piece end) ≡ apartRead (callAt blank beside piece end)) × Follows j (flowOnce c x piece end .run) (readOnce blank beside piece end)
+  unfolding flowCall callAt
+  flow-follows j x beside piece end f h =
+      let run : Run = x .run in
+      let m : Masks = c .masks (x .calls) in
+      let calm = answer-number (run .session) m (run .message) (run .control) (run .output) piece end h in
+      let g = once-follows j run beside m f piece end calm in
+      (same-read j run beside m f piece end calm,
+      record { same = once-apart x piece end ∙ g .same; shaped = g .shaped; short = g .short; least = g .least; room = g .room })
+
+  all-follows : (k j : ℕ) (x : Flow) (beside : Run) (piece : List ℕ) (end : Bool) → Follows (k + j) (x .run) beside
+      → unhindered (flowAll k c x piece end .run .trace) ≡ true → Follows j (flowAll k c x piece end .run) (readAll k blank beside piece end)
+  unfolding flowAll readAll apartRead
+  all-follows zero j x beside piece end f = λ h. less (0 + j) j (x .run) beside (omega arith) f
+  all-follows (suc k) j x beside piece end f =
+      let r : Read = flowCall c x piece end in
+      let q : Read = callAt blank beside piece end in
+      let y : Flow = flowOnce c x piece end in
+      let next : Run = readOnce blank beside piece end in
+      let e : Follows (suc (k + j)) (x .run) beside = less (suc k + j) (suc (k + j)) (x .run) beside (omega arith) f in
+      by-test (isEvent (r .turn .answer))
+      (λ t.
+      rw t
+      (λ h.
+      let g = flow-follows (k + j) x beside piece end e (once-clear x piece end (all-clear k y (drop (r .turn .taken) piece) end h) .1) in
+      let u : isEvent (q .turn .answer) ≡ true = sym (ap (λ (a : Read). isEvent (a .turn .answer)) (g .0)) ∙ t in
+      rw u
+      (subst (λ (n : ℕ). Follows j (flowAll k c y (drop (r .turn .taken) piece) end .run) (readAll k blank next (drop n piece) end))
+      (ap (λ (a : Read). a .turn .taken) (g .0)) (all-follows k j y next (drop (r .turn .taken) piece) end (g .1) h))))
+      (λ t.
+      rw t
+      (λ h.
+      let g = flow-follows (k + j) x beside piece end e (once-clear x piece end h .1) in
+      let u : isEvent (q .turn .answer) ≡ false = sym (ap (λ (a : Read). isEvent (a .turn .answer)) (g .0)) ∙ t in
+      rw u (less (k + j) j (y .run) next (omega arith) (g .1))))
+
+  -- ---- a piece, and all pieces
+  piece-follows : (j : ℕ) (x : Flow) (beside : Run) (piece : List ℕ) (end : Bool) → Follows (suc (suc (length piece)) + j) (x .run) beside
+      → unhindered (flowPiece c x piece end .run .trace) ≡ true → Follows j (flowPiece c x piece end .run) (readPiece blank beside piece end)
+  unfolding flowPiece readPiece apartRun
+  piece-follows j x beside piece end f = go (x .run .over) (beside .over) (ap (λ (r : Run). r .over) (f .same))
+    where
+      n : ℕ
+      n = suc (suc (length piece))
+
+      go : (a b : Bool) → a ≡ b → unhindered (pick a x (flowAll n c x piece end) .run .trace) ≡ true
+          → Follows j (pick a x (flowAll n c x piece end) .run) (pick b beside (readAll n blank beside piece end))
+      go true true e h = less (n + j) j (x .run) beside (omega arith) f
+      go true false e h = never refl e
+      go false true e h = never e refl
+      go false false e h = all-follows n j x beside piece end f h
