@@ -5,7 +5,7 @@ use mathlib.Core.List.{List, [], _∷_, _++_}
 use Prim.Native.Nat.{ℕ, zero, suc, _+_, _*_, _-_, _≤_}
 use native.Mathlib.Omega.{arith}
 use lib.Dec.{eqb, leb}
-use lib.ListN.{length, take, drop, replicate}
+use lib.ListN.{length, take, drop, replicate, length-replicate}
 use borrow.Author.Tests.{le-leb, not-false}
 use Rattle.base.specs.Table.{pick}
 use Rattle.base.specs.Tests.{both, firstOf}
@@ -28,6 +28,7 @@ use Rattle.steady.specs.Shape.{Shaped}
 use Rattle.steady.specs.Cutting.{isEvent, Seen, Run, noted, landed, behind, callAt, readOnce, readAll, readPiece, readPieces, joined}
 use Rattle.steady.specs.Taking.{apart, apartRead, apartRun, isHindrance, hindered, unhindered, Caller, Flow, takenRun, takenBytes, takeEach, flowCall, flowOnce, flowAll, flowPiece, flowPieces}
 use Rattle.steady.proofs.Again.{length-encoded, Room, stores-room, room-stores}
+use Rattle.steady.proofs.AnyCutting.{any-cutting}
 use Rattle.steady.proofs.Headers.{never}
 use Rattle.steady.proofs.InRangeStays.{fed, range-stays-read, shape-stays-read}
 use Rattle.steady.proofs.Moves.{length-take-most}
@@ -266,6 +267,11 @@ unfolding noted
 noted-clear trace a place =
     by-test (isMore a) (λ t. rw t (λ h. (h, ap hindered (is-more a t)))) (λ t. rw t (append-clear trace (record { answer = a; place = place })))
 
+-- so many calls are made on the pieces at most
+abbrev most : List (List ℕ) → ℕ
+most [] = 0
+most (p ∷ ps) = suc (suc (length p)) + most ps
+
 module _ (c : Caller) where
   -- ---- one call and the takes behind it
   module _ (x : Flow) (piece : List ℕ) (end : Bool) where
@@ -352,3 +358,79 @@ module _ (c : Caller) where
       go true false e h = never refl e
       go false true e h = never e refl
       go false false e h = all-follows n j x beside piece end f h
+
+  piece-clear : (x : Flow) (piece : List ℕ) (end : Bool) → unhindered (flowPiece c x piece end .run .trace) ≡ true → unhindered (x .run .trace) ≡ true
+  unfolding flowPiece
+  piece-clear x piece end = go (x .run .over)
+    where
+      go : (t : Bool) → unhindered (pick t x (flowAll (suc (suc (length piece))) c x piece end) .run .trace) ≡ true → unhindered (x .run .trace) ≡ true
+      go true h = h
+      go false h = all-clear (suc (suc (length piece))) x piece end h
+
+  pieces-clear : (x : Flow) (pieces : List (List ℕ)) (end : Bool) → unhindered (flowPieces c x pieces end .run .trace) ≡ true → unhindered (x .run .trace) ≡ true
+  unfolding flowPieces
+  pieces-clear x [] end h = h
+  pieces-clear x (p ∷ []) end h = piece-clear x p end h
+  pieces-clear x (p ∷ (q ∷ ps)) end h = piece-clear x p false (pieces-clear (flowPiece c x p false) (q ∷ ps) end h)
+
+  pieces-follow : (x : Flow) (beside : Run) (pieces : List (List ℕ)) (end : Bool) → Follows (most pieces) (x .run) beside
+      → unhindered (flowPieces c x pieces end .run .trace) ≡ true → Follows 0 (flowPieces c x pieces end .run) (readPieces blank beside pieces end)
+  unfolding flowPieces readPieces
+  pieces-follow x beside [] end f h = f
+  pieces-follow x beside (p ∷ []) end f h = piece-follows 0 x beside p end f h
+  pieces-follow x beside (p ∷ (q ∷ ps)) end f h =
+      let y : Flow = flowPiece c x p false in
+      pieces-follow y (readPiece blank beside p false) (q ∷ ps) end
+      (piece-follows (most (q ∷ ps)) x beside p false f (pieces-clear y (q ∷ ps) end h)) h
+
+-- ---- a run that takes nothing, with an output that is wide enough
+abbrev wide : ℕ → Run → Run
+wide n run =
+    record {
+      session = run .session;
+      message = run .message;
+      control = run .control;
+      output = replicate n 0;
+      place = run .place;
+      trace = run .trace;
+      over = run .over;
+    }
+
+module _ (run : Run) (header : length (run .session .incoming .header) ≡ 14) where
+  wide-shaped : (n : ℕ) → Shaped (wide n (apartRun run) .session)
+  unfolding apartRun apart emptyReply
+  wide-shaped n = (header, refl)
+
+  starts : (n k : ℕ) → 131 ≤ n → 131 * k ≤ n → Follows k run (wide n (apartRun run))
+  unfolding apartRun apart emptyReply
+  starts n k h l =
+      let size : length (replicate {A = ℕ} n 0) ≡ n = length-replicate n 0 in
+      record {
+        same = refl;
+        shaped = wide-shaped n;
+        short = λ w. omega arith;
+        least = omega arith;
+        room = omega arith;
+      }
+
+flow-whole : (c : Caller) (x : Flow) → length (x .run .session .incoming .header) ≡ 14
+    → (p : List ℕ) (ps : List (List ℕ)) (end : Bool) → unhindered (flowPieces c x (p ∷ ps) end .run .trace) ≡ true
+    → (n : ℕ) → 131 ≤ n → 131 * most (p ∷ ps) ≤ n
+    → apartRun (flowPieces c x (p ∷ ps) end .run) ≡ apartRun (readPieces blank (wide n (apartRun (x .run))) (joined (p ∷ ps) ∷ []) end)
+flow-whole c x header p ps end clear n h l =
+    let beside : Run = wide n (apartRun (x .run)) in
+    pieces-follow c x beside (p ∷ ps) end (starts (x .run) header n (most (p ∷ ps)) h l) clear .same
+    ∙ ap apartRun (any-cutting blank (λ place. refl) beside (wide-shaped (x .run) header n) p ps end)
+
+-- ---- every stream, every two ways to cut it, and every two callers: what may differ is the waiting reply and what is put out
+pub taking-changes-only-replies : (c d : Caller) (x y : Flow) → apartRun (x .run) ≡ apartRun (y .run) → Shaped (x .run .session)
+    → (p : List ℕ) (ps : List (List ℕ)) (q : List ℕ) (qs : List (List ℕ)) → joined (p ∷ ps) ≡ joined (q ∷ qs) → (end : Bool)
+    → unhindered (flowPieces c x (p ∷ ps) end .run .trace) ≡ true → unhindered (flowPieces d y (q ∷ qs) end .run .trace) ≡ true
+    → apartRun (flowPieces c x (p ∷ ps) end .run) ≡ apartRun (flowPieces d y (q ∷ qs) end .run)
+unfolding apartRun apart
+taking-changes-only-replies c d x y same sh p ps q qs stream end one other =
+    let n : ℕ = 131 + 131 * most (p ∷ ps) + 131 * most (q ∷ qs) in
+    let header : length (y .run .session .incoming .header) ≡ 14 = sym (ap (λ (r : Run). length (r .session .incoming .header)) same) ∙ sh .0 in
+    flow-whole c x (sh .0) p ps end one n (omega arith) (omega arith)
+    ∙ ap₂ (λ (r : Run) (l : List ℕ). apartRun (readPieces blank (wide n r) (l ∷ []) end)) same stream
+    ∙ sym (flow-whole d y header q qs end other n (omega arith) (omega arith))
