@@ -13,3 +13,4 @@ pub mod AnyCutting
 pub mod Taking
 pub mod AnyTaking
 pub mod WorkedStream
+pub mod WorkedTaking
