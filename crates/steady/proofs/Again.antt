@@ -105,7 +105,7 @@ pub record Room (limit held : ℕ) (message control output : List ℕ) : Type 0 
   pub for-output : 131 ≤ length output
   pub for-held : held ≤ length output
 
-either-not : (a b : Bool) → either a b ≡ false → (a ≡ false) × (b ≡ false)
+pub either-not : (a b : Bool) → either a b ≡ false → (a ≡ false) × (b ≡ false)
 either-not true b e = never refl e
 either-not false b e = (refl, e)
 

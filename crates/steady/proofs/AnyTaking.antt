@@ -2,116 +2,67 @@
 use mathlib.Core.Path.{_≡_, refl, sym, ap, ap₂, subst, _∙_}
 use mathlib.Core.Bool.{Bool, true, false, not}
 use mathlib.Core.List.{List, [], _∷_, _++_}
-use Prim.Native.Nat.{ℕ, zero, suc, _+_, _*_, _-_, _≤_}
+use Prim.Native.Nat.{ℕ, zero, suc, _+_, _*_, _≤_}
 use native.Mathlib.Omega.{arith}
-use lib.Dec.{eqb, leb}
-use lib.ListN.{length, take, drop, replicate, length-replicate}
-use borrow.Author.Tests.{le-leb, not-false}
+use lib.Dec.{eqb}
+use lib.ListN.{length, drop, replicate, length-replicate}
+use borrow.Author.Tests.{not-true, not-false}
 use Rattle.base.specs.Table.{pick}
-use Rattle.base.specs.Tests.{both, firstOf}
+use Rattle.base.specs.Tests.{either, firstOf}
 use Rattle.base.proofs.Choice.{by-test}
-use Rattle.base.proofs.Stores.{length-laid}
-use Rattle.frame.specs.Header.{plainSize, headerSize}
 use Rattle.session.specs.declared.Answer.{Answer}
+use Rattle.session.specs.declared.Answer.the-variants.{Refused}
 use Rattle.session.specs.declared.Masks.{Masks}
 use Rattle.session.specs.declared.Session.{Session}
-use Rattle.session.specs.declared.Waiting.{Waiting}
-use Rattle.session.specs.declared.Waiting.the-variants.{Nothing, Pong as PongReply, Close as CloseReply}
-use Rattle.session.specs.Calls.{emptyReply, storesShort, Read, turn, read, readTests, flagged, takeBytes, readOn, readCall, takeCall}
-use Rattle.session.specs.Range.{waits, inRange}
-use Rattle.session.specs.Reading.{World, At, isMore}
-use Rattle.session.specs.Replies.{fits, isCloseReply, noReply, replyCode, replyFrame, Out, appended, moveReply, Concluded, conclude}
-use Rattle.session.specs.Session.{isServer, isClient, isPeerClosed, isTerminated, withState, withIncoming, withReply, withHeld}
-use Rattle.session.proofs.Choices.{both-none, both-parts}
+use Rattle.session.specs.Calls.{emptyReply, storesShort, Read, turn, read, readTests, readOn, readCall}
+use Rattle.session.specs.Range.{inRange}
+use Rattle.session.specs.Reading.{isMore}
+use Rattle.session.specs.Replies.{moveReply, Out}
+use Rattle.session.specs.Session.{isTerminated, withReply}
+use Rattle.session.proofs.Choices.{both-parts}
 use Rattle.session.proofs.Fold.{is-more}
-use Rattle.steady.specs.Shape.{Shaped}
 use Rattle.steady.specs.Cutting.{isEvent, Seen, Run, noted, landed, behind, callAt, readOnce, readAll, readPiece, readPieces, joined}
-use Rattle.steady.specs.Taking.{apart, apartRead, apartRun, isHindrance, hindered, unhindered, Caller, Flow, takenRun, takenBytes, takeEach, flowCall, flowOnce, flowAll, flowPiece, flowPieces}
-use Rattle.steady.proofs.Again.{length-encoded, Room, stores-room, room-stores}
+use Rattle.steady.specs.Shape.{Shaped}
+use Rattle.steady.specs.Taking.{apart, apartRead, apartRun, refusedBy, hadRoom, Caller, Flow, takenRun, takenBytes, takeEach, flowCall, flowOnce, flowAll, flowPiece, flowPieces}
+use Rattle.steady.proofs.Again.{either-not, stores-room, room-stores}
 use Rattle.steady.proofs.AnyCutting.{any-cutting}
 use Rattle.steady.proofs.Headers.{never}
-use Rattle.steady.proofs.InRangeStays.{fed, range-stays-read, shape-stays-read}
-use Rattle.steady.proofs.Moves.{length-take-most}
-use Rattle.steady.proofs.OneCall.{conclude-same}
-use Rattle.steady.proofs.Parts.{in-range, range-held, range-reply}
+use Rattle.steady.proofs.Parts.{range-held, range-reply}
 use Rattle.steady.proofs.Passing.{lateClose}
-use Rattle.steady.proofs.Taking.{calmTests, calm, number, clear-number, answer-number, number-calm, taking-keeps}
+use Rattle.steady.proofs.Sizes.{close-fits, read-size, read-grows, Fit, fit-short, fit-read, fit-take}
+use Rattle.steady.proofs.Taking.{calmTests, calm, number, answer-number, number-calm, taking-keeps}
 
--- ---- a reply's frame has at most 131 bytes
-size-small : (client : Bool) (n : ℕ) → n ≤ 125 → headerSize client n ≤ 6
-unfolding headerSize plainSize
-size-small client n h = rw (le-leb n 125 h) (go client)
-  where
-    go : (t : Bool) → 2 + pick t 4 0 ≤ 6
-    go true = omega arith
-    go false = omega arith
+-- ---- the tests of a call on a fit run: those of the state and of the refusal, and 19
+late-number : (c t e : Bool) (k : ℕ) → eqb (pick c 2 (pick t k (pick e 19 0))) 19 ≡ false → pick c 2 (pick t k (pick e 19 0)) ≡ pick c 2 (pick t k 0)
+late-number true t e k h = refl
+late-number false true e k h = refl
+late-number false false true k h = never refl h
+late-number false false false k h = refl
 
-reply-small : (s : Session) (mask : List ℕ) → length mask ≡ 4 → s .reply .length ≤ 125 → length (replyFrame s mask) ≤ 131
-unfolding replyFrame
-reply-small s mask e h =
-    let p : List ℕ = take (s .reply .length) (s .reply .payload) in
-    let few : length p ≤ s .reply .length = length-take-most (s .reply .length) (s .reply .payload) in
-    omega (arith, length-encoded (isClient (s .settings)) (replyCode (s .reply .waiting)) mask p e, size-small (isClient (s .settings)) (length p) (omega arith))
+module _ (run : Run) (masks : Masks) (f : Fit run) where
+  abbrev s : Session
+  s = run .session
 
--- ---- a call puts out one reply at most
-abbrev Short : Session → Type 0
-Short s = waits (s .reply .waiting) ≡ true → s .reply .length ≤ 125
+  abbrev n : ℕ
+  n = number s masks (run .message) (run .control) (run .output)
 
--- at most so many more bytes are held, in an output of the same size
-abbrev Grows : Session → List ℕ → Session → List ℕ → Type 0
-Grows s output u another = (u .held ≤ s .held + 131) × (length another ≡ length output)
+  few-tests : n ≡ pick (isTerminated (s .state)) 2 (pick (not (eqb (s .refusal) 0)) (s .refusal) (pick (lateClose s (masks .first) (run .output)) 19 0))
+  unfolding readTests firstOf
+  few-tests = rw (f .ranged, room-stores s (run .message) (run .control) (run .output) (f .stores))
 
-flagged-held : (end : Bool) (d : Concluded) (n : ℕ) → flagged end d n .session .held ≡ d .session .held
-unfolding flagged
-flagged-held end d n = by-test (both end (isMore (d .answer))) (λ t. rw t) (λ t. rw t)
+  room-number : eqb n 19 ≡ false → n ≡ firstOf (calmTests (s .state) (s .refusal))
+  unfolding firstOf
+  room-number h =
+      few-tests
+      ∙ late-number (isTerminated (s .state)) (not (eqb (s .refusal) 0)) (lateClose s (masks .first) (run .output)) (s .refusal)
+      (sym (ap (λ (k : ℕ). eqb k 19) few-tests) ∙ h)
 
-on-held : (s : Session) (piece : List ℕ) (end : Bool) (message control output : List ℕ)
-    → (readOn s piece end message control output .turn .session .held ≡ s .held) × (readOn s piece end message control output .output ≡ output)
-unfolding readOn takeBytes
-on-held s piece end message control output =
-    let x : At = fed s piece message control in
-    let u : Session = withIncoming s (x .world .incoming) in
-    let d : Concluded = conclude (x .world .answer) u (x .world .control) in
-    by-test (both (isServer (s .settings)) (isPeerClosed (s .state))) (λ t. rw t (refl, refl))
-    (λ t. rw t (flagged-held end d (x .taken) ∙ conclude-same (x .world .answer) u (x .world .control) .2, refl))
-
-module _ (s : Session) (masks : Masks) (message control output : List ℕ) (four : length (masks .first) ≡ 4) (short : Short s) where
-  abbrev v : Out
-  v = moveReply s (masks .first) output
-
-  move-grows : Grows s output (v .session) (v .output)
-  unfolding moveReply appended
-  move-grows =
-      by-test (both (waits (s .reply .waiting)) (fits (s .held) output (replyFrame s (masks .first))))
-      (λ t.
-      rw t
-      (omega (arith, reply-small s (masks .first) four (short (both-parts (waits (s .reply .waiting)) _ t .0))),
-      length-laid output (s .held) (replyFrame s (masks .first))))
-      (λ t. rw t (omega arith, refl))
-
-  call-grows : (piece : List ℕ) (end : Bool)
-      → Grows s output (readCall s piece end masks message control output .turn .session) (readCall s piece end masks message control output .output)
-  unfolding readCall
-  call-grows piece end =
-      let h = on-held (v .session) piece end message control (v .output) in
-      by-test (eqb (number s masks message control output) 0)
-      (λ t. rw t (omega (arith, h .0, move-grows .0), ap length (h .1) ∙ move-grows .1)) (λ t. rw t (omega arith, refl))
-
-  -- and a waiting close has its room
-  close-fits : s .held + 131 ≤ length output → lateClose s (masks .first) output ≡ false
-  unfolding fits
-  close-fits room =
-      by-test (isCloseReply (s .reply .waiting))
-      (λ t.
-      let small = reply-small s (masks .first) four (short (close-waits (s .reply .waiting) t)) in
-      rw (le-leb (length (replyFrame s (masks .first))) (length output - s .held) (omega arith), both-none (isCloseReply (s .reply .waiting)))
-      (both-none (isServer (s .settings))))
-      (λ t. rw t (both-none (isServer (s .settings))))
-    where
-      close-waits : (k : Waiting) → isCloseReply k ≡ true → waits k ≡ true
-      close-waits Nothing e = e
-      close-waits PongReply e = refl
-      close-waits CloseReply e = refl
+  wide-number : length (masks .first) ≡ 4 → s .held + 131 ≤ length (run .output) → n ≡ firstOf (calmTests (s .state) (s .refusal))
+  unfolding firstOf
+  wide-number four room =
+      few-tests
+      ∙ ap (λ (e : Bool). pick (isTerminated (s .state)) 2 (pick (not (eqb (s .refusal) 0)) (s .refusal) (pick e 19 0)))
+      (close-fits s (masks .first) (run .output) four (fit-short run f) room)
 
 -- ---- a run beside another that is the same apart, whose output has room for so many more calls
 abbrev blank : ℕ → Masks
@@ -119,113 +70,47 @@ blank place = record { first = 0 ∷ 0 ∷ 0 ∷ 0 ∷ []; second = 0 ∷ 0 ∷ 
 
 record Follows (k : ℕ) (run beside : Run) : Type 0 where
   same : apartRun run ≡ apartRun beside
-  shaped : Shaped (beside .session)
-  short : Short (beside .session)
-  least : 131 ≤ length (beside .output)
+  fit : Fit run
+  wide : Fit beside
   room : beside .session .held + 131 * k ≤ length (beside .output)
 
-range-apart : (s u : Session) → apart s ≡ apart u → Short u → inRange s ≡ true → inRange u ≡ true
-unfolding apart emptyReply
-range-apart s u e short h =
-    let a : inRange (apart s) ≡ true = range-held (withReply s emptyReply) 0 (range-reply s emptyReply h (λ w. omega arith)) in
-    range-held (withReply (apart u) (u .reply)) (u .held) (range-reply (apart u) (u .reply) (ap inRange (sym e) ∙ a) short)
-
--- such tests have no row for 20 or 1
-calm-rows : (a b c t e : Bool) (k : ℕ) → isHindrance (pick a 20 (pick b 1 (pick c 2 (pick t k (pick e 19 0))))) ≡ false → (a ≡ false) × (b ≡ false)
-unfolding isHindrance
-calm-rows true b c t e k h = never refl h
-calm-rows false true c t e k h = never refl h
-calm-rows false false c t e k h = (refl, refl)
-
-module _ (s : Session) (masks : Masks) (message control output : List ℕ) where
-  calm-passed : isHindrance (number s masks message control output) ≡ false → (inRange s ≡ true) × (storesShort s message control output ≡ false)
-  unfolding readTests firstOf
-  calm-passed h =
-      let p =
-      calm-rows (not (inRange s)) (storesShort s message control output) (isTerminated (s .state)) (not (eqb (s .refusal) 0))
-      (lateClose s (masks .first) output) (s .refusal) h in
-      (not-false (inRange s) (p .0), p .1)
-
-  passed-calm : inRange s ≡ true → storesShort s message control output ≡ false → lateClose s (masks .first) output ≡ false
-      → number s masks message control output ≡ firstOf (calmTests (s .state) (s .refusal))
-  unfolding readTests firstOf
-  passed-calm a b c = rw (a, b, c)
+less : (k j : ℕ) (run beside : Run) → j ≤ k → Follows k run beside → Follows j run beside
+less k j run beside h f = record { same = f .same; fit = f .fit; wide = f .wide; room = omega (arith, f .room) }
 
 -- what a call leaves, apart, hangs on these
 behind-apart : (run : Run) (r : Read) → apartRun (behind run r) ≡ apartRun (behind (apartRun run) (apartRead r))
 unfolding behind landed apartRun apartRead apart
 behind-apart run r = refl
 
-module _ (j : ℕ) (run beside : Run) (masks : Masks) (f : Follows (suc j) run beside) where
-  abbrev here : ℕ
-  here = number (run .session) masks (run .message) (run .control) (run .output)
+module _ (j : ℕ) (run beside : Run) (masks : Masks) (piece : List ℕ) (end : Bool) (f : Follows (suc j) run beside) where
+  abbrev one : Read
+  one = callAt (λ place. masks) run piece end
 
-  abbrev there : ℕ
-  there = number (beside .session) (blank 0) (beside .message) (beside .control) (beside .output)
+  abbrev other : Read
+  other = callAt blank beside piece end
 
-  sessions : apart (run .session) ≡ apart (beside .session)
-  unfolding apartRun
-  sessions = ap (λ (r : Run). r .session) (f .same)
-
-  same-room : storesShort (run .session) (run .message) (run .control) (run .output) ≡ false
-      → storesShort (beside .session) (beside .message) (beside .control) (beside .output) ≡ false
-  unfolding apartRun apart
-  same-room e =
-      let r = stores-room (run .session) (run .message) (run .control) (run .output) e in
-      let limit = ap (λ (t : Session). t .settings .message) sessions in
-      let message = ap (λ (r : Run). length (r .message)) (f .same) in
-      let control = ap (λ (r : Run). length (r .control)) (f .same) in
-      room-stores (beside .session) (beside .message) (beside .control) (beside .output)
-      (record {
-        for-message = omega (arith, r .for-message);
-        for-control = omega (arith, r .for-control);
-        for-output = f .least;
-        for-held = omega (arith, f .room);
-      })
-
-  same-number : isHindrance here ≡ false → there ≡ here
-  unfolding apart
-  same-number h =
-      let p = calm-passed (run .session) masks (run .message) (run .control) (run .output) h in
-      let tests = ap (λ (t : Session). firstOf (calmTests (t .state) (t .refusal))) sessions in
-      passed-calm (beside .session) (blank 0) (beside .message) (beside .control) (beside .output)
-      (range-apart (run .session) (beside .session) sessions (f .short) (p .0)) (same-room (p .1))
-      (close-fits (beside .session) (blank 0) (beside .message) (beside .control) (beside .output) refl (f .short) (omega (arith, f .room)))
-      ∙ sym tests
-      ∙ sym (clear-number (run .session) masks (run .message) (run .control) (run .output) h)
-
-  beside-range : isHindrance here ≡ false → inRange (beside .session) ≡ true
-  beside-range h =
-      range-apart (run .session) (beside .session) sessions (f .short) (calm-passed (run .session) masks (run .message) (run .control) (run .output) h .0)
-
-  module _ (piece : List ℕ) (end : Bool) (h : isHindrance here ≡ false) where
-    abbrev one : Read
-    one = callAt (λ place. masks) run piece end
-
-    abbrev other : Read
-    other = callAt blank beside piece end
-
+  module _ (h : refusedBy 19 (one .turn .answer) ≡ false) where
     same-read : apartRead one ≡ apartRead other
     unfolding callAt apartRun
     same-read =
-        number-calm (run .session) masks (run .message) (run .control) (run .output) piece end h
+        number-calm (run .session) masks (run .message) (run .control) (run .output) piece end
+        (room-number run masks (f .fit) (answer-number (run .session) masks (run .message) (run .control) (run .output) piece end (refusedBy 19) refl h))
         ∙ ap (λ (r : Run). calm (r .session) piece end (r .message) (r .control)) (f .same)
         ∙ sym
-        (number-calm (beside .session) (blank 0) (beside .message) (beside .control) (beside .output) piece end (ap isHindrance (same-number h) ∙ h))
+        (number-calm (beside .session) (blank 0) (beside .message) (beside .control) (beside .output) piece end
+        (wide-number beside (blank 0) (f .wide) refl (omega (arith, f .room))))
 
     once-follows : Follows j (readOnce (λ place. masks) run piece end) (readOnce blank beside piece end)
     unfolding callAt readOnce behind landed
     once-follows =
         let s : Session = beside .session in
-        let m : Masks = blank 0 in
-        let grows = call-grows s m (beside .message) (beside .control) (beside .output) refl (f .short) piece end in
-        let range = range-stays-read s piece end m (beside .message) (beside .control) (beside .output) (f .shaped) (beside-range h) in
+        let size = read-size s piece end (blank 0) (beside .message) (beside .control) (beside .output) in
+        let grows = read-grows s piece end (blank 0) (beside .message) (beside .control) (beside .output) refl (fit-short beside (f .wide)) in
         record {
           same = behind-apart run one ∙ ap₂ (λ (x : Run) (r : Read). apartRun (behind x r)) (f .same) same-read ∙ sym (behind-apart beside other);
-          shaped = shape-stays-read s piece end m (beside .message) (beside .control) (beside .output) (f .shaped);
-          short = in-range (other .turn .session) range .reply-short;
-          least = omega (arith, grows .1, f .least);
-          room = omega (arith, grows, f .room);
+          fit = fit-read (λ place. masks) run piece end (f .fit);
+          wide = fit-read blank beside piece end (f .wide);
+          room = omega (arith, f .room);
         }
 
 -- ---- takes change nothing of the run apart
@@ -249,23 +134,25 @@ takes-apart x [] = refl
 takes-apart x (n ∷ ns) =
     takes-apart (record { run = takenRun (x .run) n; calls = x .calls; put = x .put ++ takenBytes (x .run) n }) ns ∙ take-apart (x .run) n
 
--- ---- a trace with no such refusal was so before the call, and the call's answer was none
-not-clear : (b : Bool) → not b ≡ true → b ≡ false
-not-clear true e = sym e
-not-clear false e = refl
+takes-fit : (x : Flow) (ns : List ℕ) → Fit (x .run) → Fit (takeEach x ns .run)
+unfolding takeEach
+takes-fit x [] f = f
+takes-fit x (n ∷ ns) f =
+    takes-fit (record { run = takenRun (x .run) n; calls = x .calls; put = x .put ++ takenBytes (x .run) n }) ns (fit-take (x .run) n f)
 
-append-clear : (l : List Seen) (x : Seen) → unhindered (l ++ (x ∷ [])) ≡ true → (unhindered l ≡ true) × (hindered (x .answer) ≡ false)
-unfolding unhindered
-append-clear [] x h = (refl, not-clear (hindered (x .answer)) (both-parts (not (hindered (x .answer))) true h .0))
-append-clear (y ∷ l) x h =
-    let p = both-parts (not (hindered (y .answer))) (unhindered (l ++ (x ∷ []))) h in
-    let q = append-clear l x (p .1) in
+-- ---- a trace without 19 was so before the call, and the call's answer was another
+append-room : (l : List Seen) (x : Seen) → hadRoom (l ++ (x ∷ [])) ≡ true → (hadRoom l ≡ true) × (refusedBy 19 (x .answer) ≡ false)
+unfolding hadRoom
+append-room [] x h = (refl, not-true (refusedBy 19 (x .answer)) (both-parts (not (refusedBy 19 (x .answer))) true h .0))
+append-room (y ∷ l) x h =
+    let p = both-parts (not (refusedBy 19 (y .answer))) (hadRoom (l ++ (x ∷ []))) h in
+    let q = append-room l x (p .1) in
     (rw (p .0) (q .0), q .1)
 
-noted-clear : (trace : List Seen) (a : Answer) (place : ℕ) → unhindered (noted trace a place) ≡ true → (unhindered trace ≡ true) × (hindered a ≡ false)
+noted-room : (trace : List Seen) (a : Answer) (place : ℕ) → hadRoom (noted trace a place) ≡ true → (hadRoom trace ≡ true) × (refusedBy 19 a ≡ false)
 unfolding noted
-noted-clear trace a place =
-    by-test (isMore a) (λ t. rw t (λ h. (h, ap hindered (is-more a t)))) (λ t. rw t (append-clear trace (record { answer = a; place = place })))
+noted-room trace a place =
+    by-test (isMore a) (λ t. rw t (λ h. (h, ap (refusedBy 19) (is-more a t)))) (λ t. rw t (append-room trace (record { answer = a; place = place })))
 
 -- so many calls are made on the pieces at most
 abbrev most : List (List ℕ) → ℕ
@@ -275,50 +162,61 @@ most (p ∷ ps) = suc (suc (length p)) + most ps
 module _ (c : Caller) where
   -- ---- one call and the takes behind it
   module _ (x : Flow) (piece : List ℕ) (end : Bool) where
-    once-apart : apartRun (flowOnce c x piece end .run) ≡ apartRun (readOnce (λ place. c .masks (x .calls)) (x .run) piece end)
+    abbrev read-next : Run
+    read-next = readOnce (λ place. c .masks (x .calls)) (x .run) piece end
+
+    once-apart : apartRun (flowOnce c x piece end .run) ≡ apartRun read-next
     unfolding flowOnce
-    once-apart =
-        let run : Run = readOnce (λ place. c .masks (x .calls)) (x .run) piece end in
-        takes-apart (record { run = run; calls = x .calls + 1; put = x .put }) (c .takes (x .calls) run)
+    once-apart = takes-apart (record { run = read-next; calls = x .calls + 1; put = x .put }) (c .takes (x .calls) read-next)
 
-    once-clear : unhindered (flowOnce c x piece end .run .trace) ≡ true
-        → (unhindered (x .run .trace) ≡ true) × (hindered (flowCall c x piece end .turn .answer) ≡ false)
+    once-fit : Fit read-next → Fit (flowOnce c x piece end .run)
+    unfolding flowOnce
+    once-fit = takes-fit (record { run = read-next; calls = x .calls + 1; put = x .put }) (c .takes (x .calls) read-next)
+
+    once-room : hadRoom (flowOnce c x piece end .run .trace) ≡ true
+        → (hadRoom (x .run .trace) ≡ true) × (refusedBy 19 (flowCall c x piece end .turn .answer) ≡ false)
     unfolding apartRun readOnce behind landed flowCall
-    once-clear h =
+    once-room h =
         let r : Read = flowCall c x piece end in
-        noted-clear (x .run .trace) (r .turn .answer) (x .run .place + r .turn .taken)
-        (sym (ap (λ (r : Run). unhindered (r .trace)) once-apart) ∙ h)
+        noted-room (x .run .trace) (r .turn .answer) (x .run .place + r .turn .taken) (sym (ap (λ (r : Run). hadRoom (r .trace)) once-apart) ∙ h)
 
-  all-clear : (k : ℕ) (x : Flow) (piece : List ℕ) (end : Bool) → unhindered (flowAll k c x piece end .run .trace) ≡ true → unhindered (x .run .trace) ≡ true
+  all-room : (k : ℕ) (x : Flow) (piece : List ℕ) (end : Bool) → hadRoom (flowAll k c x piece end .run .trace) ≡ true → hadRoom (x .run .trace) ≡ true
   unfolding flowAll
-  all-clear zero x piece end = λ h. h
-  all-clear (suc k) x piece end =
+  all-room zero x piece end = λ h. h
+  all-room (suc k) x piece end =
       by-test (isEvent (flowCall c x piece end .turn .answer))
       (λ t.
       rw t
-      (λ h.
-      once-clear x piece end (all-clear k (flowOnce c x piece end) (drop (flowCall c x piece end .turn .taken) piece) end h) .0))
-      (λ t. rw t (λ h. once-clear x piece end h .0))
+      (λ h. once-room x piece end (all-room k (flowOnce c x piece end) (drop (flowCall c x piece end .turn .taken) piece) end h) .0))
+      (λ t. rw t (λ h. once-room x piece end h .0))
+
+  piece-room : (x : Flow) (piece : List ℕ) (end : Bool) → hadRoom (flowPiece c x piece end .run .trace) ≡ true → hadRoom (x .run .trace) ≡ true
+  unfolding flowPiece
+  piece-room x piece end = go (x .run .over)
+    where
+      go : (t : Bool) → hadRoom (pick t x (flowAll (suc (suc (length piece))) c x piece end) .run .trace) ≡ true → hadRoom (x .run .trace) ≡ true
+      go true h = h
+      go false h = all-room (suc (suc (length piece))) x piece end h
+
+  pieces-room : (x : Flow) (pieces : List (List ℕ)) (end : Bool) → hadRoom (flowPieces c x pieces end .run .trace) ≡ true → hadRoom (x .run .trace) ≡ true
+  unfolding flowPieces
+  pieces-room x [] end h = h
+  pieces-room x (p ∷ []) end h = piece-room x p end h
+  pieces-room x (p ∷ (q ∷ ps)) end h = piece-room x p false (pieces-room (flowPiece c x p false) (q ∷ ps) end h)
 
   -- ---- the run beside it
-  less : (k j : ℕ) (run beside : Run) → j ≤ k → Follows k run beside → Follows j run beside
-  less k j run beside h f =
-      record { same = f .same; shaped = f .shaped; short = f .short; least = f .least; room = omega (arith, f .room) }
-
   flow-follows : (j : ℕ) (x : Flow) (beside : Run) (piece : List ℕ) (end : Bool) → Follows (suc j) (x .run) beside
-      → hindered (flowCall c x piece end .turn .answer) ≡ false
+      → refusedBy 19 (flowCall c x piece end .turn .answer) ≡ false
       → (apartRead (flowCall c x piece end) ≡ apartRead (callAt blank beside piece end)) × Follows j (flowOnce c x piece end .run) (readOnce blank beside piece end)
-  unfolding flowCall callAt
+  unfolding flowCall
   flow-follows j x beside piece end f h =
-      let run : Run = x .run in
       let m : Masks = c .masks (x .calls) in
-      let calm = answer-number (run .session) m (run .message) (run .control) (run .output) piece end h in
-      let g = once-follows j run beside m f piece end calm in
-      (same-read j run beside m f piece end calm,
-      record { same = once-apart x piece end ∙ g .same; shaped = g .shaped; short = g .short; least = g .least; room = g .room })
+      let g = once-follows j (x .run) beside m piece end f h in
+      (same-read j (x .run) beside m piece end f h,
+      record { same = once-apart x piece end ∙ g .same; fit = once-fit x piece end (g .fit); wide = g .wide; room = g .room })
 
   all-follows : (k j : ℕ) (x : Flow) (beside : Run) (piece : List ℕ) (end : Bool) → Follows (k + j) (x .run) beside
-      → unhindered (flowAll k c x piece end .run .trace) ≡ true → Follows j (flowAll k c x piece end .run) (readAll k blank beside piece end)
+      → hadRoom (flowAll k c x piece end .run .trace) ≡ true → Follows j (flowAll k c x piece end .run) (readAll k blank beside piece end)
   unfolding flowAll readAll apartRead
   all-follows zero j x beside piece end f = λ h. less (0 + j) j (x .run) beside (omega arith) f
   all-follows (suc k) j x beside piece end f =
@@ -331,7 +229,7 @@ module _ (c : Caller) where
       (λ t.
       rw t
       (λ h.
-      let g = flow-follows (k + j) x beside piece end e (once-clear x piece end (all-clear k y (drop (r .turn .taken) piece) end h) .1) in
+      let g = flow-follows (k + j) x beside piece end e (once-room x piece end (all-room k y (drop (r .turn .taken) piece) end h) .1) in
       let u : isEvent (q .turn .answer) ≡ true = sym (ap (λ (a : Read). isEvent (a .turn .answer)) (g .0)) ∙ t in
       rw u
       (subst (λ (n : ℕ). Follows j (flowAll k c y (drop (r .turn .taken) piece) end .run) (readAll k blank next (drop n piece) end))
@@ -339,53 +237,38 @@ module _ (c : Caller) where
       (λ t.
       rw t
       (λ h.
-      let g = flow-follows (k + j) x beside piece end e (once-clear x piece end h .1) in
+      let g = flow-follows (k + j) x beside piece end e (once-room x piece end h .1) in
       let u : isEvent (q .turn .answer) ≡ false = sym (ap (λ (a : Read). isEvent (a .turn .answer)) (g .0)) ∙ t in
       rw u (less (k + j) j (y .run) next (omega arith) (g .1))))
 
-  -- ---- a piece, and all pieces
   piece-follows : (j : ℕ) (x : Flow) (beside : Run) (piece : List ℕ) (end : Bool) → Follows (suc (suc (length piece)) + j) (x .run) beside
-      → unhindered (flowPiece c x piece end .run .trace) ≡ true → Follows j (flowPiece c x piece end .run) (readPiece blank beside piece end)
+      → hadRoom (flowPiece c x piece end .run .trace) ≡ true → Follows j (flowPiece c x piece end .run) (readPiece blank beside piece end)
   unfolding flowPiece readPiece apartRun
   piece-follows j x beside piece end f = go (x .run .over) (beside .over) (ap (λ (r : Run). r .over) (f .same))
     where
       n : ℕ
       n = suc (suc (length piece))
 
-      go : (a b : Bool) → a ≡ b → unhindered (pick a x (flowAll n c x piece end) .run .trace) ≡ true
+      go : (a b : Bool) → a ≡ b → hadRoom (pick a x (flowAll n c x piece end) .run .trace) ≡ true
           → Follows j (pick a x (flowAll n c x piece end) .run) (pick b beside (readAll n blank beside piece end))
       go true true e h = less (n + j) j (x .run) beside (omega arith) f
       go true false e h = never refl e
       go false true e h = never e refl
       go false false e h = all-follows n j x beside piece end f h
 
-  piece-clear : (x : Flow) (piece : List ℕ) (end : Bool) → unhindered (flowPiece c x piece end .run .trace) ≡ true → unhindered (x .run .trace) ≡ true
-  unfolding flowPiece
-  piece-clear x piece end = go (x .run .over)
-    where
-      go : (t : Bool) → unhindered (pick t x (flowAll (suc (suc (length piece))) c x piece end) .run .trace) ≡ true → unhindered (x .run .trace) ≡ true
-      go true h = h
-      go false h = all-clear (suc (suc (length piece))) x piece end h
-
-  pieces-clear : (x : Flow) (pieces : List (List ℕ)) (end : Bool) → unhindered (flowPieces c x pieces end .run .trace) ≡ true → unhindered (x .run .trace) ≡ true
-  unfolding flowPieces
-  pieces-clear x [] end h = h
-  pieces-clear x (p ∷ []) end h = piece-clear x p end h
-  pieces-clear x (p ∷ (q ∷ ps)) end h = piece-clear x p false (pieces-clear (flowPiece c x p false) (q ∷ ps) end h)
-
   pieces-follow : (x : Flow) (beside : Run) (pieces : List (List ℕ)) (end : Bool) → Follows (most pieces) (x .run) beside
-      → unhindered (flowPieces c x pieces end .run .trace) ≡ true → Follows 0 (flowPieces c x pieces end .run) (readPieces blank beside pieces end)
+      → hadRoom (flowPieces c x pieces end .run .trace) ≡ true → Follows 0 (flowPieces c x pieces end .run) (readPieces blank beside pieces end)
   unfolding flowPieces readPieces
   pieces-follow x beside [] end f h = f
   pieces-follow x beside (p ∷ []) end f h = piece-follows 0 x beside p end f h
   pieces-follow x beside (p ∷ (q ∷ ps)) end f h =
       let y : Flow = flowPiece c x p false in
       pieces-follow y (readPiece blank beside p false) (q ∷ ps) end
-      (piece-follows (most (q ∷ ps)) x beside p false f (pieces-clear y (q ∷ ps) end h)) h
+      (piece-follows (most (q ∷ ps)) x beside p false f (pieces-room y (q ∷ ps) end h)) h
 
 -- ---- a run that takes nothing, with an output that is wide enough
-abbrev wide : ℕ → Run → Run
-wide n run =
+abbrev widened : ℕ → Run → Run
+widened n run =
     record {
       session = run .session;
       message = run .message;
@@ -396,41 +279,114 @@ wide n run =
       over = run .over;
     }
 
-module _ (run : Run) (header : length (run .session .incoming .header) ≡ 14) where
-  wide-shaped : (n : ℕ) → Shaped (wide n (apartRun run) .session)
-  unfolding apartRun apart emptyReply
-  wide-shaped n = (header, refl)
+starts : (run : Run) (n k : ℕ) → Fit run → 131 ≤ n → 131 * k ≤ n → Follows k run (widened n (apartRun run))
+unfolding apartRun apart emptyReply
+starts run n k f h l =
+    let size : length (replicate {A = ℕ} n 0) ≡ n = length-replicate n 0 in
+    record {
+      same = refl;
+      fit = f;
+      wide =
+          record {
+            shaped = (f .shaped .0, refl);
+            ranged = range-held (withReply (run .session) emptyReply) 0 (range-reply (run .session) emptyReply (f .ranged) (λ w. omega arith));
+            stores = record { for-message = f .stores .for-message; for-control = f .stores .for-control; for-output = omega arith; for-held = omega arith };
+          };
+      room = omega arith;
+    }
 
-  starts : (n k : ℕ) → 131 ≤ n → 131 * k ≤ n → Follows k run (wide n (apartRun run))
-  unfolding apartRun apart emptyReply
-  starts n k h l =
-      let size : length (replicate {A = ℕ} n 0) ≡ n = length-replicate n 0 in
-      record {
-        same = refl;
-        shaped = wide-shaped n;
-        short = λ w. omega arith;
-        least = omega arith;
-        room = omega arith;
-      }
-
-flow-whole : (c : Caller) (x : Flow) → length (x .run .session .incoming .header) ≡ 14
-    → (p : List ℕ) (ps : List (List ℕ)) (end : Bool) → unhindered (flowPieces c x (p ∷ ps) end .run .trace) ≡ true
+flow-whole : (c : Caller) (x : Flow) → Fit (x .run) → (p : List ℕ) (ps : List (List ℕ)) (end : Bool) → hadRoom (flowPieces c x (p ∷ ps) end .run .trace) ≡ true
     → (n : ℕ) → 131 ≤ n → 131 * most (p ∷ ps) ≤ n
-    → apartRun (flowPieces c x (p ∷ ps) end .run) ≡ apartRun (readPieces blank (wide n (apartRun (x .run))) (joined (p ∷ ps) ∷ []) end)
-flow-whole c x header p ps end clear n h l =
-    let beside : Run = wide n (apartRun (x .run)) in
-    pieces-follow c x beside (p ∷ ps) end (starts (x .run) header n (most (p ∷ ps)) h l) clear .same
-    ∙ ap apartRun (any-cutting blank (λ place. refl) beside (wide-shaped (x .run) header n) p ps end)
+    → apartRun (flowPieces c x (p ∷ ps) end .run) ≡ apartRun (readPieces blank (widened n (apartRun (x .run))) (joined (p ∷ ps) ∷ []) end)
+flow-whole c x f p ps end h n m l =
+    let beside : Run = widened n (apartRun (x .run)) in
+    let start : Follows (most (p ∷ ps)) (x .run) beside = starts (x .run) n (most (p ∷ ps)) f m l in
+    pieces-follow c x beside (p ∷ ps) end start h .same ∙ ap apartRun (any-cutting blank (λ place. refl) beside (start .wide .shaped) p ps end)
 
--- ---- every stream, every two ways to cut it, and every two callers: what may differ is the waiting reply and what is put out
-pub taking-changes-only-replies : (c d : Caller) (x y : Flow) → apartRun (x .run) ≡ apartRun (y .run) → Shaped (x .run .session)
+-- from fit runs that are the same apart
+pub taking-from-alike : (c d : Caller) (x y : Flow) → apartRun (x .run) ≡ apartRun (y .run) → Fit (x .run) → Fit (y .run)
     → (p : List ℕ) (ps : List (List ℕ)) (q : List ℕ) (qs : List (List ℕ)) → joined (p ∷ ps) ≡ joined (q ∷ qs) → (end : Bool)
-    → unhindered (flowPieces c x (p ∷ ps) end .run .trace) ≡ true → unhindered (flowPieces d y (q ∷ qs) end .run .trace) ≡ true
+    → hadRoom (flowPieces c x (p ∷ ps) end .run .trace) ≡ true → hadRoom (flowPieces d y (q ∷ qs) end .run .trace) ≡ true
     → apartRun (flowPieces c x (p ∷ ps) end .run) ≡ apartRun (flowPieces d y (q ∷ qs) end .run)
-unfolding apartRun apart
-taking-changes-only-replies c d x y same sh p ps q qs stream end one other =
+taking-from-alike c d x y same f g p ps q qs stream end h k =
     let n : ℕ = 131 + 131 * most (p ∷ ps) + 131 * most (q ∷ qs) in
-    let header : length (y .run .session .incoming .header) ≡ 14 = sym (ap (λ (r : Run). length (r .session .incoming .header)) same) ∙ sh .0 in
-    flow-whole c x (sh .0) p ps end one n (omega arith) (omega arith)
-    ∙ ap₂ (λ (r : Run) (l : List ℕ). apartRun (readPieces blank (wide n r) (l ∷ []) end)) same stream
-    ∙ sym (flow-whole d y header q qs end other n (omega arith) (omega arith))
+    flow-whole c x f p ps end h n (omega arith) (omega arith)
+    ∙ ap₂ (λ (r : Run) (l : List ℕ). apartRun (readPieces blank (widened n r) (l ∷ []) end)) same stream
+    ∙ sym (flow-whole d y g q qs end k n (omega arith) (omega arith))
+
+-- ---- a run that is not fit: the first call is refused with 20 or 1, and is the last
+module _ (run : Run) where
+  abbrev unfit : Bool
+  unfit = either (not (inRange (run .session))) (storesShort (run .session) (run .message) (run .control) (run .output))
+
+  abbrev halt : Read
+  halt = read (turn (Refused (pick (not (inRange (run .session))) 20 1)) 0 (run .session)) (run .message) (run .control) (run .output)
+
+  halted : (masks : ℕ → Masks) (piece : List ℕ) (end : Bool) → unfit ≡ true → callAt masks run piece end ≡ halt
+  unfolding callAt readCall readTests firstOf
+  halted masks piece end =
+      let v : Out = moveReply (run .session) (masks (run .place) .first) (run .output) in
+      go (not (inRange (run .session))) (storesShort (run .session) (run .message) (run .control) (run .output)) _
+      (readOn (v .session) piece end (run .message) (run .control) (v .output))
+    where
+      go : (a b : Bool) (n : ℕ) (r : Read) → either a b ≡ true
+          → pick (eqb (pick a 20 (pick b 1 n)) 0) r (read (turn (Refused (pick a 20 (pick b 1 n))) 0 (run .session)) (run .message) (run .control) (run .output))
+          ≡ read (turn (Refused (pick a 20 1)) 0 (run .session)) (run .message) (run .control) (run .output)
+      go true b n r e = refl
+      go false true n r e = refl
+      go false false n r e = never e refl
+
+module _ (c : Caller) where
+  piece-over : (x : Flow) (piece : List ℕ) (end : Bool) → x .run .over ≡ true → flowPiece c x piece end ≡ x
+  unfolding flowPiece
+  piece-over x piece end t = ap (λ (b : Bool). pick b x (flowAll (suc (suc (length piece))) c x piece end)) t
+
+  all-over : (x : Flow) (pieces : List (List ℕ)) (end : Bool) → x .run .over ≡ true → flowPieces c x pieces end ≡ x
+  unfolding flowPieces
+  all-over x [] end t = refl
+  all-over x (p ∷ []) end t = piece-over x p end t
+  all-over x (p ∷ (q ∷ ps)) end t = ap (λ (y : Flow). flowPieces c y (q ∷ ps) end) (piece-over x p false t) ∙ all-over x (q ∷ ps) end t
+
+  module _ (x : Flow) (going : x .run .over ≡ false) (u : unfit (x .run) ≡ true) where
+    stop-once : (piece : List ℕ) (end : Bool) → apartRun (flowOnce c x piece end .run) ≡ apartRun (behind (x .run) (halt (x .run)))
+    unfolding readOnce
+    stop-once piece end =
+        once-apart c x piece end
+        ∙ ap (λ (r : Read). apartRun (behind (x .run) r)) (halted (x .run) (λ place. c .masks (x .calls)) piece end u)
+
+    stop-piece : (piece : List ℕ) (end : Bool) → flowPiece c x piece end ≡ flowOnce c x piece end
+    unfolding flowPiece flowAll flowCall
+    stop-piece piece end =
+        ap (λ (b : Bool). pick b x (flowAll (suc (suc (length piece))) c x piece end)) going
+        ∙ rw (halted (x .run) (λ place. c .masks (x .calls)) piece end u)
+
+    stop : (p : List ℕ) (ps : List (List ℕ)) (end : Bool) → apartRun (flowPieces c x (p ∷ ps) end .run) ≡ apartRun (behind (x .run) (halt (x .run)))
+    unfolding flowPieces apartRun behind landed
+    stop p [] end = ap (λ (y : Flow). apartRun (y .run)) (stop-piece p end) ∙ stop-once p end
+    stop p (q ∷ ps) end =
+        let y : Flow = flowOnce c x p false in
+        ap (λ (z : Flow). apartRun (flowPieces c z (q ∷ ps) end .run)) (stop-piece p false)
+        ∙ ap (λ (z : Flow). apartRun (z .run)) (all-over y (q ∷ ps) end (ap (λ (r : Run). r .over) (stop-once p false)))
+        ∙ stop-once p false
+
+-- ---- every session, every stream, every two ways to cut it, and every two callers. Where no call is refused with 19, what may differ is
+-- the waiting reply, and what is held and put out
+pub taking-changes-only-replies : (c d : Caller) (x : Flow) → Shaped (x .run .session)
+    → (p : List ℕ) (ps : List (List ℕ)) (q : List ℕ) (qs : List (List ℕ)) → joined (p ∷ ps) ≡ joined (q ∷ qs) → (end : Bool)
+    → hadRoom (flowPieces c x (p ∷ ps) end .run .trace) ≡ true → hadRoom (flowPieces d x (q ∷ qs) end .run .trace) ≡ true
+    → apartRun (flowPieces c x (p ∷ ps) end .run) ≡ apartRun (flowPieces d x (q ∷ qs) end .run)
+taking-changes-only-replies c d x sh p ps q qs stream end h k =
+    let s : Session = x .run .session in
+    by-test (x .run .over)
+    (λ t. ap (λ (y : Flow). apartRun (y .run)) (all-over c x (p ∷ ps) end t ∙ sym (all-over d x (q ∷ qs) end t)))
+    (λ t.
+    by-test (unfit (x .run)) (λ u. stop c x t u p ps end ∙ sym (stop d x t u q qs end))
+    (λ u.
+    let e = either-not (not (inRange s)) _ u in
+    let f : Fit (x .run) =
+    record {
+      shaped = sh;
+      ranged = not-false (inRange s) (e .0);
+      stores = stores-room s (x .run .message) (x .run .control) (x .run .output) (e .1);
+    } in
+    taking-from-alike c d x x refl f f p ps q qs stream end h k))

@@ -11,6 +11,7 @@ pub mod Again
 pub mod OneCall
 pub mod AnyCutting
 pub mod Taking
+pub mod Sizes
 pub mod AnyTaking
 pub mod WorkedStream
 pub mod WorkedTaking

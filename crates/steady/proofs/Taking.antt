@@ -18,7 +18,7 @@ use Rattle.session.specs.Range.{inRange}
 use Rattle.session.specs.Reading.{At, isMore}
 use Rattle.session.specs.Replies.{Out, moveReply, noReply, closeCame, pingCame, Concluded, concluded, conclude}
 use Rattle.session.specs.Session.{isServer, isActive, isClosedByUs, isPeerClosed, isTerminated, withIncoming}
-use Rattle.steady.specs.Taking.{apart, apartRead, isHindrance, hindered}
+use Rattle.steady.specs.Taking.{apart, apartRead, hindered}
 use Rattle.steady.proofs.Headers.{never}
 use Rattle.steady.proofs.InRangeStays.{fed}
 use Rattle.steady.proofs.Moves.{by-move}
@@ -76,9 +76,9 @@ module _ (s : Session) (piece : List ℕ) (end : Bool) (message control output :
 abbrev pub calmTests : ℕ → ℕ → List Test
 calmTests state refusal = (2 when isTerminated state) ∷ (refusal when not (eqb refusal 0)) ∷ []
 
-calm-number : (a b c t e : Bool) (k : ℕ) → isHindrance (pick a 20 (pick b 1 (pick c 2 (pick t k (pick e 19 0))))) ≡ false
+calm-number : (a b c t e : Bool) (k : ℕ) → hindered (Refused (pick a 20 (pick b 1 (pick c 2 (pick t k (pick e 19 0)))))) ≡ false
     → pick a 20 (pick b 1 (pick c 2 (pick t k (pick e 19 0)))) ≡ pick c 2 (pick t k 0)
-unfolding isHindrance
+unfolding hindered
 calm-number true b c t e k h = never refl h
 calm-number false true c t e k h = never refl h
 calm-number false false true t e k h = refl
@@ -103,7 +103,7 @@ module _ (s : Session) (masks : Masks) (message control output : List ℕ) where
   unfolding apart
   move-apart = by-move (λ u. apart u ≡ apart s) s (masks .first) output (λ n. refl) refl
 
-  pub clear-number : isHindrance number ≡ false → number ≡ firstOf (calmTests (s .state) (s .refusal))
+  clear-number : hindered (Refused number) ≡ false → number ≡ firstOf (calmTests (s .state) (s .refusal))
   unfolding readTests firstOf
   clear-number =
       calm-number (not (inRange s)) (storesShort s message control output) (isTerminated (s .state)) (not (eqb (s .refusal) 0))
@@ -113,16 +113,17 @@ module _ (s : Session) (masks : Masks) (message control output : List ℕ) where
     abbrev call : Read
     call = readCall s piece end masks message control output
 
-    pub answer-number : hindered (call .turn .answer) ≡ false → isHindrance number ≡ false
-    unfolding readCall isHindrance
-    answer-number = by-test (eqb number 0) (λ t h. ap isHindrance (eqb-true number 0 t)) (λ t. rw t (λ h. h))
+    -- what is refused by no test is refused by none of these numbers
+    pub answer-number : (P : Answer → Bool) → P (Refused 0) ≡ false → P (call .turn .answer) ≡ false → P (Refused number) ≡ false
+    unfolding readCall
+    answer-number P z = by-test (eqb number 0) (λ t h. ap (λ (k : ℕ). P (Refused k)) (eqb-true number 0 t) ∙ z) (λ t. rw t (λ h. h))
 
-    pub number-calm : isHindrance number ≡ false → apartRead call ≡ calm (apart s) piece end message control
+    pub number-calm : number ≡ firstOf (calmTests (s .state) (s .refusal)) → apartRead call ≡ calm (apart s) piece end message control
     unfolding readCall apartRead apart
-    number-calm h =
+    number-calm e =
         let n : ℕ = firstOf (calmTests (s .state) (s .refusal)) in
         let on : Read = readOn (v .session) piece end message control (v .output) in
-        ap (λ (k : ℕ). apartRead (pick (eqb k 0) on (read (turn (Refused k) 0 s) message control output))) (clear-number h)
+        ap (λ (k : ℕ). apartRead (pick (eqb k 0) on (read (turn (Refused k) 0 s) message control output))) e
         ∙ by-test (eqb n 0)
         (λ t.
         rw t
@@ -131,7 +132,8 @@ module _ (s : Session) (masks : Masks) (message control output : List ℕ) where
         (λ t. rw t)
 
     call-calm : hindered (call .turn .answer) ≡ false → apartRead call ≡ calm (apart s) piece end message control
-    call-calm h = number-calm (answer-number h)
+    unfolding hindered
+    call-calm h = number-calm (clear-number (answer-number hindered refl h))
 
 -- ---- one call: whatever waits, is held or was taken
 pub taking-one-call : (s u : Session) (piece : List ℕ) (end : Bool) (masks others : Masks) (message control output another : List ℕ)

@@ -38,23 +38,23 @@ apartRun run =
     }
 
 -- ---- what is left out: a call that is refused for a store, for want of room, or for a session out of range
-unfoldable pub isHindrance : ℕ → Bool
-isHindrance k = either (eqb k 1) (either (eqb k 19) (eqb k 20))
+abbrev pub refusedBy : ℕ → Answer → Bool
+refusedBy k More = false
+refusedBy k (Text n) = false
+refusedBy k (Binary n) = false
+refusedBy k (Ping n) = false
+refusedBy k (Pong n) = false
+refusedBy k (Close n) = false
+refusedBy k Closed = false
+refusedBy k (Refused n) = eqb n k
 
-abbrev pub hindered : Answer → Bool
-hindered More = false
-hindered (Text n) = false
-hindered (Binary n) = false
-hindered (Ping n) = false
-hindered (Pong n) = false
-hindered (Close n) = false
-hindered Closed = false
-hindered (Refused k) = isHindrance k
+unfoldable pub hindered : Answer → Bool
+hindered a = either (refusedBy 1 a) (either (refusedBy 19 a) (refusedBy 20 a))
 
--- no answer of these is such a refusal
-unfoldable pub unhindered : List Seen → Bool
-unhindered [] = true
-unhindered (x ∷ xs) = both (not (hindered (x .answer))) (unhindered xs)
+-- none of these answers is 19, "output has no room"
+unfoldable pub hadRoom : List Seen → Bool
+hadRoom [] = true
+hadRoom (x ∷ xs) = both (not (refusedBy 19 (x .answer))) (hadRoom xs)
 
 -- ---- a caller
 -- what it does, by the count of the calls before: the masks that it brings to a call, and how much it takes behind it, one take after the
