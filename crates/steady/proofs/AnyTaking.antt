@@ -211,9 +211,10 @@ module _ (c : Caller) where
   unfolding flowCall
   flow-follows j x beside piece end f h =
       let m : Masks = c .masks (x .calls) in
-      let g = once-follows j (x .run) beside m piece end f h in
-      (same-read j (x .run) beside m piece end f h,
-      record { same = once-apart x piece end ∙ g .same; fit = once-fit x piece end (g .fit); wide = g .wide; room = g .room })
+      let g = once-follows j (x .run) beside m piece end f h in (
+        same-read j (x .run) beside m piece end f h,
+        record { same = once-apart x piece end ∙ g .same; fit = once-fit x piece end (g .fit); wide = g .wide; room = g .room },
+      )
 
   all-follows : (k j : ℕ) (x : Flow) (beside : Run) (piece : List ℕ) (end : Bool) → Follows (k + j) (x .run) beside
       → hadRoom (flowAll k c x piece end .run .trace) ≡ true → Follows j (flowAll k c x piece end .run) (readAll k blank beside piece end)

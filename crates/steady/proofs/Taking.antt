@@ -1,5 +1,5 @@
 -- Taking output between the calls changes the waiting reply and what is put out, and nothing else.
-use mathlib.Core.Path.{_≡_, refl, sym, ap, ap₂, _∙_}
+use mathlib.Core.Path.{_≡_, refl, sym, ap, _∙_}
 use mathlib.Core.Bool.{Bool, true, false, not}
 use mathlib.Core.List.{List, [], _∷_}
 use Prim.Native.Nat.{ℕ}
@@ -16,7 +16,7 @@ use Rattle.session.specs.declared.Turn.{Turn}
 use Rattle.session.specs.Calls.{storesShort, Read, turn, read, readTests, flagged, takeBytes, readOn, readCall, takeTests, takeCall}
 use Rattle.session.specs.Range.{inRange}
 use Rattle.session.specs.Reading.{At, isMore}
-use Rattle.session.specs.Replies.{Out, moveReply, noReply, closeCame, pingCame, Concluded, concluded, conclude}
+use Rattle.session.specs.Replies.{Out, moveReply, closeCame, pingCame, Concluded, concluded, conclude}
 use Rattle.session.specs.Session.{isServer, isActive, isClosedByUs, isPeerClosed, isTerminated, withIncoming}
 use Rattle.steady.specs.Taking.{apart, apartRead, hindered}
 use Rattle.steady.proofs.Headers.{never}

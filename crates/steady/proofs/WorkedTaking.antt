@@ -1,10 +1,10 @@
 -- What taking output between the calls does change: runs with a full output store, computed from the definitions.
 use mathlib.Core.Path.{_≡_, refl, sym, ap, _∙_}
-use mathlib.Core.Bool.{Bool, true, false}
+use mathlib.Core.Bool.{false}
 use mathlib.Core.List.{List, [], _∷_, _++_}
 use Prim.Native.Nat.{ℕ}
 use native.Mathlib.Omega.{arith}
-use lib.ListN.{length, take, replicate}
+use lib.ListN.{length, replicate}
 use Rattle.base.specs.Bytes.{part, fromBig, toBig}
 use Rattle.base.specs.Stores.{laid}
 use Rattle.base.specs.Table.{valueAt}
@@ -27,7 +27,7 @@ use Rattle.session.specs.Range.{limitsHold, settingsHold, headerHolds, countHol
 use Rattle.session.specs.Reading.{keep, plain, stored, refuse, finish, rest, settle, byteIn, step, feed}
 use Rattle.session.specs.Replies.{frameHeader, encoded, fits, replyOf, withPong, noReply, replyFrame, appended, moveReply, shownLength, shownControl, closeCame, pingCame}
 use Rattle.utf8.specs.Progress.{stepped, progressAfter, isWhole, isBeginning}
-use Rattle.steady.specs.Cutting.{Seen, Run, noted, landed, behind, callAt, readOnce}
+use Rattle.steady.specs.Cutting.{Seen, noted, landed, behind, callAt, readOnce}
 use Rattle.steady.specs.Taking.{Caller, Flow, takenRun, takenBytes, takeEach, flowCall, flowOnce, flowAll, flowPiece, flowPieces}
 
 pub unmasked : Masks
