@@ -1,8 +1,11 @@
--- Laws of numbers that are given by tests in order: for code that asks the tests one after the other, and for a list in two parts.
+-- Laws of numbers that are given by tests in order: for code that asks the tests one after the other, for a list in two parts, and for
+-- which numbers can be given.
 use mathlib.Core.Path.{_≡_, refl, sym, _∙_}
 use mathlib.Core.Bool.{Bool, true, false}
 use mathlib.Core.List.{List, [], _∷_, _++_}
-use Prim.Native.Nat.{ℕ}
+use mathlib.Core.Logic.{_⊎_, inl, inr, ⊎-elim}
+use Prim.Native.Nat.{ℕ, _≤_}
+use native.Mathlib.Omega.{arith}
 use Rattle.base.specs.Table.{pick}
 use Rattle.base.specs.Tests.{Test, _when_, firstOf}
 
@@ -30,6 +33,15 @@ unfolding firstOf
 first-clear n true rest k h = absurd (k h)
 first-clear n false rest k h = (refl, h)
 
+-- none of the tests holds
+abbrev pub Clear : List Test → Type 0
+Clear [] = Unit {0}
+Clear ((n when t) ∷ rest) = (t ≡ false) × Clear rest
+
+pub all-clear : (tests : List Test) → Named tests → firstOf tests ≡ 0 → Clear tests
+all-clear [] k h = tt
+all-clear ((n when t) ∷ rest) k h = let p = first-clear n t rest (k .0) h in (p .0, all-clear rest (k .1) (p .1))
+
 -- where the first part gives a number, that is it
 pub first-stop : (xs ys : List Test) → (firstOf xs ≡ 0 → ⊥) → firstOf (xs ++ ys) ≡ firstOf xs
 unfolding firstOf
@@ -52,3 +64,25 @@ first-pass ((n when t) ∷ xs) ys k h = go t (first-pass xs ys (k .1)) h
     go : (t : Bool) → (firstOf xs ≡ 0 → firstOf (xs ++ ys) ≡ firstOf ys) → pick t n (firstOf xs) ≡ 0 → pick t n (firstOf (xs ++ ys)) ≡ firstOf ys
     go true more h = absurd (k .0 h)
     go false more h = more h
+
+-- ---- which numbers can be given
+-- every number that a test gives lies between the two
+abbrev pub Between : ℕ → ℕ → List Test → Type 0
+Between lo hi [] = Unit {0}
+Between lo hi ((n when t) ∷ rest) = ((lo ≤ n) × (n ≤ hi)) × Between lo hi rest
+
+pub first-between : (lo hi : ℕ) (tests : List Test) → Between lo hi tests → (firstOf tests ≡ 0) ⊎ ((lo ≤ firstOf tests) × (firstOf tests ≤ hi))
+unfolding firstOf
+first-between lo hi [] k = inl refl
+first-between lo hi ((n when t) ∷ rest) k = go t (first-between lo hi rest (k .1))
+  where
+    go : (t : Bool) → (firstOf rest ≡ 0) ⊎ ((lo ≤ firstOf rest) × (firstOf rest ≤ hi))
+        → (pick t n (firstOf rest) ≡ 0) ⊎ ((lo ≤ pick t n (firstOf rest)) × (pick t n (firstOf rest) ≤ hi))
+    go true more = inr (k .0)
+    go false more = more
+
+pub given-between : (lo hi : ℕ) (tests : List Test) → Between lo hi tests → (firstOf tests ≡ 0 → ⊥) → (lo ≤ firstOf tests) × (firstOf tests ≤ hi)
+given-between lo hi tests k h = ⊎-elim (λ e. absurd (h e)) (λ x. x) (first-between lo hi tests k)
+
+pub first-most : (hi : ℕ) (tests : List Test) → Between 0 hi tests → firstOf tests ≤ hi
+first-most hi tests k = ⊎-elim (λ e. omega arith) (λ x. x .1) (first-between 0 hi tests k)

@@ -10,6 +10,7 @@ use borrow.Author.Tests.{eqb-true, eqb-false, ltb-false, leb-false}
 use Rattle.base.specs.Table.{pick}
 use Rattle.base.specs.Tests.{Test, firstOf}
 use Rattle.base.proofs.Choice.{by-test}
+use Rattle.base.proofs.Tests.{Clear, given-between, all-clear}
 use Rattle.coding.specs.declared.opcode.Control.{Control as ControlKind}
 use Rattle.coding.specs.declared.opcode.Control.the-variants.{Close as CloseFrame, Ping as PingFrame, Pong as PongFrame}
 use Rattle.coding.specs.declared.opcode.OpCode.{OpCode}
@@ -22,7 +23,6 @@ use Rattle.session.specs.declared.Settings.{Settings}
 use Rattle.session.specs.Frames.{headerWhole, frame, isReserved, isControl, isData, isText, headerTests, before, progressNow, doomTests, utfTest, verdict}
 use Rattle.session.specs.Reading.{World, world, between, controlEvent, ended, refuse, finish, rest, settle}
 use Rattle.steady.proofs.Headers.{Bounded, Waits, never, whole-between, between-bounded}
-use Rattle.steady.proofs.Numbers.{Clear, given-between, all-clear}
 
 -- ---- what holds of what has come beside an answer
 -- the number that a session is refused by afterwards, 0 where it is not

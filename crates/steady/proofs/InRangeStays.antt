@@ -10,6 +10,7 @@ use borrow.Author.Tests.{eqb-true}
 use Rattle.base.specs.Table.{pick}
 use Rattle.base.specs.Tests.{both, either, _when_, firstOf}
 use Rattle.base.proofs.Choice.{by-test}
+use Rattle.base.proofs.Tests.{first-most}
 use Rattle.coding.specs.declared.opcode.Control.the-variants.{Close as CloseFrame, Ping as PingFrame}
 use Rattle.coding.specs.declared.opcode.Data.the-variants.{Text as TextFrame, Binary as BinaryFrame}
 use Rattle.coding.specs.declared.opcode.OpCode.{OpCode}
@@ -34,7 +35,6 @@ use Rattle.steady.specs.Shape.{Shaped}
 use Rattle.steady.proofs.Bytes.{feed-fine}
 use Rattle.steady.proofs.Frames.{refusalOf, Fair, FineWorld, settle-fine}
 use Rattle.steady.proofs.Moves.{by-move, move-range, move-shaped, pong-short, pong-shaped, conclude-range, conclude-shaped, conclude-number}
-use Rattle.steady.proofs.Numbers.{first-most}
 use Rattle.steady.proofs.Parts.{in-range, bounded-start, range-held, range-state, range-reply, range-incoming}
 use Rattle.steady.proofs.Passing.{read-passed, read-number, send-number, send-clear, take-number}
 

@@ -1,4 +1,3 @@
-pub mod Numbers
 pub mod Headers
 pub mod Frames
 pub mod Bytes

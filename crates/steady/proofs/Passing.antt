@@ -11,13 +11,12 @@ use borrow.Author.Tests.{eqb-true, eqb-false, ltb-true, ltb-false, not-false}
 use Rattle.base.specs.Table.{pick}
 use Rattle.base.specs.Tests.{both, Test, _when_, firstOf}
 use Rattle.base.proofs.Choice.{by-test}
-use Rattle.base.proofs.Tests.{first-clear}
+use Rattle.base.proofs.Tests.{first-clear, first-most, all-clear}
 use Rattle.session.specs.declared.Session.{Session}
 use Rattle.session.specs.Calls.{outputShort, storesShort, readTests, sendTests, takeTests}
 use Rattle.session.specs.Range.{inRange}
 use Rattle.session.specs.Replies.{fits, isCloseReply, replyFrame}
 use Rattle.session.specs.Session.{isServer, isActive, isTerminated}
-use Rattle.steady.proofs.Numbers.{first-most, all-clear}
 use Rattle.steady.proofs.Parts.{in-range}
 
 -- a test whose number may be 0
