@@ -1,2 +1,3 @@
 // No function: what holds of every session over all calls. A session in range stays in range, and how a stream is cut into pieces
-// changes nothing. The definitions are in specs/, the theorems in proofs/.
+// changes nothing; taking output between the calls changes the waiting reply and what is put out, and nothing else. The definitions are
+// in specs/, the theorems in proofs/.
