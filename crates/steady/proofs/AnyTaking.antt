@@ -2,13 +2,14 @@
 use mathlib.Core.Path.{_≡_, refl, sym, ap, ap₂, subst, _∙_}
 use mathlib.Core.Bool.{Bool, true, false, not}
 use mathlib.Core.List.{List, [], _∷_, _++_}
+use mathlib.Core.Logic.{_⊎_, inl, inr, ⊎-elim}
 use Prim.Native.Nat.{ℕ, zero, suc, _+_, _*_, _≤_}
 use native.Mathlib.Omega.{arith}
 use lib.Dec.{eqb}
 use lib.ListN.{length, drop, replicate, length-replicate}
 use borrow.Author.Tests.{not-true, not-false}
 use Rattle.base.specs.Table.{pick}
-use Rattle.base.specs.Tests.{either, firstOf}
+use Rattle.base.specs.Tests.{both, either, firstOf}
 use Rattle.base.proofs.Choice.{by-test}
 use Rattle.session.specs.declared.Answer.{Answer}
 use Rattle.session.specs.declared.Answer.the-variants.{Refused}
@@ -17,19 +18,19 @@ use Rattle.session.specs.declared.Session.{Session}
 use Rattle.session.specs.Calls.{emptyReply, storesShort, Read, turn, read, readTests, readOn, readCall}
 use Rattle.session.specs.Range.{inRange}
 use Rattle.session.specs.Reading.{isMore}
-use Rattle.session.specs.Replies.{moveReply, Out}
-use Rattle.session.specs.Session.{isTerminated, withReply}
+use Rattle.session.specs.Replies.{fits, isCloseReply, replyFrame, Out, moveReply}
+use Rattle.session.specs.Session.{isServer, isTerminated, withReply}
 use Rattle.session.proofs.Choices.{both-parts}
 use Rattle.session.proofs.Fold.{is-more}
 use Rattle.steady.specs.Cutting.{isEvent, Seen, Run, noted, landed, behind, callAt, readOnce, readAll, readPiece, readPieces, joined}
 use Rattle.steady.specs.Shape.{Shaped}
-use Rattle.steady.specs.Taking.{apart, apartRead, apartRun, refusedBy, hadRoom, Caller, Flow, takenRun, takenBytes, takeEach, flowCall, flowOnce, flowAll, flowPiece, flowPieces}
+use Rattle.steady.specs.Taking.{apart, apartRead, apartRun, refusedBy, hadRoom, spared, Caller, Flow, takenRun, takenBytes, takeEach, flowCall, flowOnce, flowAll, flowPiece, flowPieces}
 use Rattle.steady.proofs.Again.{either-not, stores-room, room-stores}
 use Rattle.steady.proofs.AnyCutting.{any-cutting}
 use Rattle.steady.proofs.Headers.{never}
 use Rattle.steady.proofs.Parts.{range-held, range-reply}
 use Rattle.steady.proofs.Passing.{lateClose}
-use Rattle.steady.proofs.Sizes.{close-fits, read-size, read-grows, Fit, fit-short, fit-read, fit-take}
+use Rattle.steady.proofs.Sizes.{close-fits, read-size, read-grows, read-settings, Fit, fit-short, fit-read, fit-take}
 use Rattle.steady.proofs.Taking.{calmTests, calm, number, answer-number, number-calm, taking-keeps}
 
 -- ---- the tests of a call on a fit run: those of the state and of the refusal, and 19
@@ -50,19 +51,24 @@ module _ (run : Run) (masks : Masks) (f : Fit run) where
   unfolding readTests firstOf
   few-tests = rw (f .ranged, room-stores s (run .message) (run .control) (run .output) (f .stores))
 
-  room-number : eqb n 19 ≡ false → n ≡ firstOf (calmTests (s .state) (s .refusal))
+  no-late : lateClose s (masks .first) (run .output) ≡ false → n ≡ firstOf (calmTests (s .state) (s .refusal))
   unfolding firstOf
-  room-number h =
+  no-late late =
+      few-tests ∙ ap (λ (e : Bool). pick (isTerminated (s .state)) 2 (pick (not (eqb (s .refusal) 0)) (s .refusal) (pick e 19 0))) late
+
+  spared-number : (isServer (s .settings) ≡ false) ⊎ (eqb n 19 ≡ false) → n ≡ firstOf (calmTests (s .state) (s .refusal))
+  unfolding firstOf
+  spared-number =
+      ⊎-elim
+      (λ t.
+      no-late (ap (λ (b : Bool). both b (both (isCloseReply (s .reply .waiting)) (not (fits (s .held) (run .output) (replyFrame s (masks .first)))))) t))
+      (λ h.
       few-tests
       ∙ late-number (isTerminated (s .state)) (not (eqb (s .refusal) 0)) (lateClose s (masks .first) (run .output)) (s .refusal)
-      (sym (ap (λ (k : ℕ). eqb k 19) few-tests) ∙ h)
+      (sym (ap (λ (k : ℕ). eqb k 19) few-tests) ∙ h))
 
   wide-number : length (masks .first) ≡ 4 → s .held + 131 ≤ length (run .output) → n ≡ firstOf (calmTests (s .state) (s .refusal))
-  unfolding firstOf
-  wide-number four room =
-      few-tests
-      ∙ ap (λ (e : Bool). pick (isTerminated (s .state)) 2 (pick (not (eqb (s .refusal) 0)) (s .refusal) (pick e 19 0)))
-      (close-fits s (masks .first) (run .output) four (fit-short run f) room)
+  wide-number four room = no-late (close-fits s (masks .first) (run .output) four (fit-short run f) room)
 
 -- ---- a run beside another that is the same apart, whose output has room for so many more calls
 abbrev blank : ℕ → Masks
@@ -77,6 +83,10 @@ record Follows (k : ℕ) (run beside : Run) : Type 0 where
 less : (k j : ℕ) (run beside : Run) → j ≤ k → Follows k run beside → Follows j run beside
 less k j run beside h f = record { same = f .same; fit = f .fit; wide = f .wide; room = omega (arith, f .room) }
 
+-- a call on a client's run, or one that is not refused with 19
+abbrev Spared : Run → Read → Type 0
+Spared run r = (isServer (run .session .settings) ≡ false) ⊎ (refusedBy 19 (r .turn .answer) ≡ false)
+
 -- what a call leaves, apart, hangs on these
 behind-apart : (run : Run) (r : Read) → apartRun (behind run r) ≡ apartRun (behind (apartRun run) (apartRead r))
 unfolding behind landed apartRun apartRead apart
@@ -89,12 +99,15 @@ module _ (j : ℕ) (run beside : Run) (masks : Masks) (piece : List ℕ) (end : 
   abbrev other : Read
   other = callAt blank beside piece end
 
-  module _ (h : refusedBy 19 (one .turn .answer) ≡ false) where
+  module _ (h : Spared run one) where
     same-read : apartRead one ≡ apartRead other
     unfolding callAt apartRun
     same-read =
         number-calm (run .session) masks (run .message) (run .control) (run .output) piece end
-        (room-number run masks (f .fit) (answer-number (run .session) masks (run .message) (run .control) (run .output) piece end (refusedBy 19) refl h))
+        (spared-number run masks (f .fit)
+        (⊎-elim inl
+        (λ a. inr (answer-number (run .session) masks (run .message) (run .control) (run .output) piece end (refusedBy 19) refl a))
+        h))
         ∙ ap (λ (r : Run). calm (r .session) piece end (r .message) (r .control)) (f .same)
         ∙ sym
         (number-calm (beside .session) (blank 0) (beside .message) (beside .control) (beside .output) piece end
@@ -154,6 +167,10 @@ unfolding noted
 noted-room trace a place =
     by-test (isMore a) (λ t. rw t (λ h. (h, ap (refusedBy 19) (is-more a t)))) (λ t. rw t (append-room trace (record { answer = a; place = place })))
 
+server-room : (server room : Bool) → server ≡ true → either (not server) room ≡ true → room ≡ true
+server-room true room e h = h
+server-room false room e h = never e refl
+
 -- so many calls are made on the pieces at most
 abbrev most : List (List ℕ) → ℕ
 most [] = 0
@@ -180,33 +197,49 @@ module _ (c : Caller) where
         let r : Read = flowCall c x piece end in
         noted-room (x .run .trace) (r .turn .answer) (x .run .place + r .turn .taken) (sym (ap (λ (r : Run). hadRoom (r .trace)) once-apart) ∙ h)
 
-  all-room : (k : ℕ) (x : Flow) (piece : List ℕ) (end : Bool) → hadRoom (flowAll k c x piece end .run .trace) ≡ true → hadRoom (x .run .trace) ≡ true
+    once-settings : flowOnce c x piece end .run .session .settings ≡ x .run .session .settings
+    unfolding apartRun apart readOnce behind landed callAt
+    once-settings =
+        ap (λ (r : Run). r .session .settings) once-apart
+        ∙ read-settings (x .run .session) piece end (c .masks (x .calls)) (x .run .message) (x .run .control) (x .run .output)
+
+    once-spared : spared (flowOnce c x piece end .run) ≡ true → (spared (x .run) ≡ true) × Spared (x .run) (flowCall c x piece end)
+    unfolding spared
+    once-spared h =
+        let y : Run = flowOnce c x piece end .run in
+        by-test (isServer (x .run .session .settings))
+        (λ t.
+        let p = once-room (server-room (isServer (y .session .settings)) (hadRoom (y .trace)) (ap isServer once-settings ∙ t) h) in
+        (rw t (p .0), inr (p .1)))
+        (λ t. (rw t refl, inl t))
+
+  all-spared : (k : ℕ) (x : Flow) (piece : List ℕ) (end : Bool) → spared (flowAll k c x piece end .run) ≡ true → spared (x .run) ≡ true
   unfolding flowAll
-  all-room zero x piece end = λ h. h
-  all-room (suc k) x piece end =
+  all-spared zero x piece end = λ h. h
+  all-spared (suc k) x piece end =
       by-test (isEvent (flowCall c x piece end .turn .answer))
       (λ t.
       rw t
-      (λ h. once-room x piece end (all-room k (flowOnce c x piece end) (drop (flowCall c x piece end .turn .taken) piece) end h) .0))
-      (λ t. rw t (λ h. once-room x piece end h .0))
+      (λ h. once-spared x piece end (all-spared k (flowOnce c x piece end) (drop (flowCall c x piece end .turn .taken) piece) end h) .0))
+      (λ t. rw t (λ h. once-spared x piece end h .0))
 
-  piece-room : (x : Flow) (piece : List ℕ) (end : Bool) → hadRoom (flowPiece c x piece end .run .trace) ≡ true → hadRoom (x .run .trace) ≡ true
+  piece-spared : (x : Flow) (piece : List ℕ) (end : Bool) → spared (flowPiece c x piece end .run) ≡ true → spared (x .run) ≡ true
   unfolding flowPiece
-  piece-room x piece end = go (x .run .over)
+  piece-spared x piece end = go (x .run .over)
     where
-      go : (t : Bool) → hadRoom (pick t x (flowAll (suc (suc (length piece))) c x piece end) .run .trace) ≡ true → hadRoom (x .run .trace) ≡ true
+      go : (t : Bool) → spared (pick t x (flowAll (suc (suc (length piece))) c x piece end) .run) ≡ true → spared (x .run) ≡ true
       go true h = h
-      go false h = all-room (suc (suc (length piece))) x piece end h
+      go false h = all-spared (suc (suc (length piece))) x piece end h
 
-  pieces-room : (x : Flow) (pieces : List (List ℕ)) (end : Bool) → hadRoom (flowPieces c x pieces end .run .trace) ≡ true → hadRoom (x .run .trace) ≡ true
+  pieces-spared : (x : Flow) (pieces : List (List ℕ)) (end : Bool) → spared (flowPieces c x pieces end .run) ≡ true → spared (x .run) ≡ true
   unfolding flowPieces
-  pieces-room x [] end h = h
-  pieces-room x (p ∷ []) end h = piece-room x p end h
-  pieces-room x (p ∷ (q ∷ ps)) end h = piece-room x p false (pieces-room (flowPiece c x p false) (q ∷ ps) end h)
+  pieces-spared x [] end h = h
+  pieces-spared x (p ∷ []) end h = piece-spared x p end h
+  pieces-spared x (p ∷ (q ∷ ps)) end h = piece-spared x p false (pieces-spared (flowPiece c x p false) (q ∷ ps) end h)
 
   -- ---- the run beside it
   flow-follows : (j : ℕ) (x : Flow) (beside : Run) (piece : List ℕ) (end : Bool) → Follows (suc j) (x .run) beside
-      → refusedBy 19 (flowCall c x piece end .turn .answer) ≡ false
+      → Spared (x .run) (flowCall c x piece end)
       → (apartRead (flowCall c x piece end) ≡ apartRead (callAt blank beside piece end)) × Follows j (flowOnce c x piece end .run) (readOnce blank beside piece end)
   unfolding flowCall
   flow-follows j x beside piece end f h =
@@ -217,7 +250,7 @@ module _ (c : Caller) where
       )
 
   all-follows : (k j : ℕ) (x : Flow) (beside : Run) (piece : List ℕ) (end : Bool) → Follows (k + j) (x .run) beside
-      → hadRoom (flowAll k c x piece end .run .trace) ≡ true → Follows j (flowAll k c x piece end .run) (readAll k blank beside piece end)
+      → spared (flowAll k c x piece end .run) ≡ true → Follows j (flowAll k c x piece end .run) (readAll k blank beside piece end)
   unfolding flowAll readAll apartRead
   all-follows zero j x beside piece end f = λ h. less (0 + j) j (x .run) beside (omega arith) f
   all-follows (suc k) j x beside piece end f =
@@ -230,7 +263,7 @@ module _ (c : Caller) where
       (λ t.
       rw t
       (λ h.
-      let g = flow-follows (k + j) x beside piece end e (once-room x piece end (all-room k y (drop (r .turn .taken) piece) end h) .1) in
+      let g = flow-follows (k + j) x beside piece end e (once-spared x piece end (all-spared k y (drop (r .turn .taken) piece) end h) .1) in
       let u : isEvent (q .turn .answer) ≡ true = sym (ap (λ (a : Read). isEvent (a .turn .answer)) (g .0)) ∙ t in
       rw u
       (subst (λ (n : ℕ). Follows j (flowAll k c y (drop (r .turn .taken) piece) end .run) (readAll k blank next (drop n piece) end))
@@ -238,19 +271,19 @@ module _ (c : Caller) where
       (λ t.
       rw t
       (λ h.
-      let g = flow-follows (k + j) x beside piece end e (once-room x piece end h .1) in
+      let g = flow-follows (k + j) x beside piece end e (once-spared x piece end h .1) in
       let u : isEvent (q .turn .answer) ≡ false = sym (ap (λ (a : Read). isEvent (a .turn .answer)) (g .0)) ∙ t in
       rw u (less (k + j) j (y .run) next (omega arith) (g .1))))
 
   piece-follows : (j : ℕ) (x : Flow) (beside : Run) (piece : List ℕ) (end : Bool) → Follows (suc (suc (length piece)) + j) (x .run) beside
-      → hadRoom (flowPiece c x piece end .run .trace) ≡ true → Follows j (flowPiece c x piece end .run) (readPiece blank beside piece end)
+      → spared (flowPiece c x piece end .run) ≡ true → Follows j (flowPiece c x piece end .run) (readPiece blank beside piece end)
   unfolding flowPiece readPiece apartRun
   piece-follows j x beside piece end f = go (x .run .over) (beside .over) (ap (λ (r : Run). r .over) (f .same))
     where
       n : ℕ
       n = suc (suc (length piece))
 
-      go : (a b : Bool) → a ≡ b → hadRoom (pick a x (flowAll n c x piece end) .run .trace) ≡ true
+      go : (a b : Bool) → a ≡ b → spared (pick a x (flowAll n c x piece end) .run) ≡ true
           → Follows j (pick a x (flowAll n c x piece end) .run) (pick b beside (readAll n blank beside piece end))
       go true true e h = less (n + j) j (x .run) beside (omega arith) f
       go true false e h = never refl e
@@ -258,14 +291,14 @@ module _ (c : Caller) where
       go false false e h = all-follows n j x beside piece end f h
 
   pieces-follow : (x : Flow) (beside : Run) (pieces : List (List ℕ)) (end : Bool) → Follows (most pieces) (x .run) beside
-      → hadRoom (flowPieces c x pieces end .run .trace) ≡ true → Follows 0 (flowPieces c x pieces end .run) (readPieces blank beside pieces end)
+      → spared (flowPieces c x pieces end .run) ≡ true → Follows 0 (flowPieces c x pieces end .run) (readPieces blank beside pieces end)
   unfolding flowPieces readPieces
   pieces-follow x beside [] end f h = f
   pieces-follow x beside (p ∷ []) end f h = piece-follows 0 x beside p end f h
   pieces-follow x beside (p ∷ (q ∷ ps)) end f h =
       let y : Flow = flowPiece c x p false in
       pieces-follow y (readPiece blank beside p false) (q ∷ ps) end
-      (piece-follows (most (q ∷ ps)) x beside p false f (pieces-room y (q ∷ ps) end h)) h
+      (piece-follows (most (q ∷ ps)) x beside p false f (pieces-spared y (q ∷ ps) end h)) h
 
 -- ---- a run that takes nothing, with an output that is wide enough
 abbrev widened : ℕ → Run → Run
@@ -296,7 +329,7 @@ starts run n k f h l =
       room = omega arith;
     }
 
-flow-whole : (c : Caller) (x : Flow) → Fit (x .run) → (p : List ℕ) (ps : List (List ℕ)) (end : Bool) → hadRoom (flowPieces c x (p ∷ ps) end .run .trace) ≡ true
+flow-whole : (c : Caller) (x : Flow) → Fit (x .run) → (p : List ℕ) (ps : List (List ℕ)) (end : Bool) → spared (flowPieces c x (p ∷ ps) end .run) ≡ true
     → (n : ℕ) → 131 ≤ n → 131 * most (p ∷ ps) ≤ n
     → apartRun (flowPieces c x (p ∷ ps) end .run) ≡ apartRun (readPieces blank (widened n (apartRun (x .run))) (joined (p ∷ ps) ∷ []) end)
 flow-whole c x f p ps end h n m l =
@@ -307,7 +340,7 @@ flow-whole c x f p ps end h n m l =
 -- from fit runs that are the same apart
 pub taking-from-alike : (c d : Caller) (x y : Flow) → apartRun (x .run) ≡ apartRun (y .run) → Fit (x .run) → Fit (y .run)
     → (p : List ℕ) (ps : List (List ℕ)) (q : List ℕ) (qs : List (List ℕ)) → joined (p ∷ ps) ≡ joined (q ∷ qs) → (end : Bool)
-    → hadRoom (flowPieces c x (p ∷ ps) end .run .trace) ≡ true → hadRoom (flowPieces d y (q ∷ qs) end .run .trace) ≡ true
+    → spared (flowPieces c x (p ∷ ps) end .run) ≡ true → spared (flowPieces d y (q ∷ qs) end .run) ≡ true
     → apartRun (flowPieces c x (p ∷ ps) end .run) ≡ apartRun (flowPieces d y (q ∷ qs) end .run)
 taking-from-alike c d x y same f g p ps q qs stream end h k =
     let n : ℕ = 131 + 131 * most (p ∷ ps) + 131 * most (q ∷ qs) in
@@ -370,11 +403,11 @@ module _ (c : Caller) where
         ∙ ap (λ (z : Flow). apartRun (z .run)) (all-over y (q ∷ ps) end (ap (λ (r : Run). r .over) (stop-once p false)))
         ∙ stop-once p false
 
--- ---- every session, every stream, every two ways to cut it, and every two callers. Where no call is refused with 19, what may differ is
--- the waiting reply, and what is held and put out
+-- ---- every session, every stream, every two ways to cut it, and every two callers. Unless a server's call is refused with 19, what may
+-- differ is the waiting reply, and what is held and put out
 pub taking-changes-only-replies : (c d : Caller) (x : Flow) → Shaped (x .run .session)
     → (p : List ℕ) (ps : List (List ℕ)) (q : List ℕ) (qs : List (List ℕ)) → joined (p ∷ ps) ≡ joined (q ∷ qs) → (end : Bool)
-    → hadRoom (flowPieces c x (p ∷ ps) end .run .trace) ≡ true → hadRoom (flowPieces d x (q ∷ qs) end .run .trace) ≡ true
+    → spared (flowPieces c x (p ∷ ps) end .run) ≡ true → spared (flowPieces d x (q ∷ qs) end .run) ≡ true
     → apartRun (flowPieces c x (p ∷ ps) end .run) ≡ apartRun (flowPieces d x (q ∷ qs) end .run)
 taking-changes-only-replies c d x sh p ps q qs stream end h k =
     let s : Session = x .run .session in

@@ -36,7 +36,7 @@ use Rattle.steady.proofs.Bytes.{feed-fine}
 use Rattle.steady.proofs.Frames.{refusalOf, Fair, FineWorld, settle-fine}
 use Rattle.steady.proofs.Moves.{by-move, move-range, move-shaped, pong-short, pong-shaped, conclude-range, conclude-shaped, conclude-number}
 use Rattle.steady.proofs.Parts.{in-range, bounded-start, range-held, range-state, range-reply, range-incoming}
-use Rattle.steady.proofs.Passing.{read-passed, read-number, client-number, send-number, send-clear, take-number}
+use Rattle.steady.proofs.Passing.{read-passed, read-number, send-number, send-clear, take-number}
 
 -- ---- a new session has the shape; that it is in range is `new-range`
 pub shape-new : (role : Role) (frame message : ℕ) (unmasked : Bool) → Shaped (newCall role frame message unmasked .session)
@@ -44,11 +44,11 @@ unfolding newCall fresh noIncoming emptyReply
 shape-new role frame message unmasked = by-test (limitsHold frame message) (λ t. rw t (refl, refl)) (λ t. rw t (refl, refl))
 
 -- ---- reading
--- what is promised of a turn, with the highest number that it may answer
-pub record Steady (most : ℕ) (t : Turn) : Type 0 where
+-- what is promised of a turn
+pub record Steady (t : Turn) : Type 0 where
   pub range : inRange (t .session) ≡ true
   pub shaped : Shaped (t .session)
-  pub number : refusalOf (t .answer) ≤ most
+  pub number : refusalOf (t .answer) ≤ 19
 
 pub fair-most : (a : Answer) → Fair a → refusalOf a ≤ 15
 fair-most More k = omega arith
@@ -60,15 +60,15 @@ fair-most (Close n) k = omega arith
 fair-most Closed k = omega arith
 fair-most (Refused n) k = k .1
 
-flagged-steady : (end : Bool) (d : Concluded) (n : ℕ) → inRange (d .session) ≡ true → Shaped (d .session) → refusalOf (d .answer) ≤ 16
-    → Steady 16 (flagged end d n)
+flagged-steady : (end : Bool) (d : Concluded) (n : ℕ) → inRange (d .session) ≡ true → Shaped (d .session) → refusalOf (d .answer) ≤ 19
+    → Steady (flagged end d n)
 unfolding flagged
 flagged-steady end d n e h k =
     by-test (both end (isMore (d .answer)))
     (λ t. rw t (record { range = range-state (d .session) 4 e (omega arith); shaped = h; number = last (isPeerClosed (d .session .state)) }))
     (λ t. rw t (record { range = e; shaped = h; number = k }))
   where
-    last : (p : Bool) → refusalOf (pick p Closed (Refused 16)) ≤ 16
+    last : (p : Bool) → refusalOf (pick p Closed (Refused 16)) ≤ 19
     last true = omega arith
     last false = omega arith
 
@@ -83,7 +83,7 @@ fed-fine s piece message control h e =
     (settle-fine (s .settings) (s .state) (world (s .incoming) message control More) (bounded-start s e (h .0)) refl)
 
 module _ (s : Session) (piece : List ℕ) (end : Bool) (message control output : List ℕ) (h : Shaped s) (e : inRange s ≡ true) where
-  take-steady : s .refusal ≡ 0 → Steady 16 (takeBytes s piece end message control output .turn)
+  take-steady : s .refusal ≡ 0 → Steady (takeBytes s piece end message control output .turn)
   unfolding takeBytes
   take-steady z =
       let w : World = fed s piece message control .world in
@@ -95,7 +95,7 @@ module _ (s : Session) (piece : List ℕ) (end : Bool) (message control output :
       (conclude-shaped u (w .control) (x .bounded .header-full, h .1) (w .answer))
       (omega (arith, conclude-number (w .answer) u (w .control), fair-most (w .answer) (x .fair)))
 
-  on-steady : s .refusal ≡ 0 → Steady 16 (readOn s piece end message control output .turn)
+  on-steady : s .refusal ≡ 0 → Steady (readOn s piece end message control output .turn)
   unfolding readOn
   on-steady z =
       by-test (both (isServer (s .settings)) (isPeerClosed (s .state)))
@@ -105,22 +105,18 @@ module _ (s : Session) (piece : List ℕ) (end : Bool) (masks : Masks) (message 
   abbrev readNumber : ℕ
   readNumber = firstOf (readTests s (masks .first) message control output)
 
-  -- the number is one of a test, or 16 at most
-  read-most : (most : ℕ) → 16 ≤ most → readNumber ≤ most → Shaped s → inRange s ≡ true → Steady most (readCall s piece end masks message control output .turn)
+  read-steady : Shaped s → inRange s ≡ true → Steady (readCall s piece end masks message control output .turn)
   unfolding readCall
-  read-most most l m h e =
+  read-steady h e =
       let v : Out = moveReply s (masks .first) output in
       by-test (eqb readNumber 0)
       (λ t.
       let p = read-passed s (masks .first) message control output (eqb-true readNumber 0 t) in
       let z : v .session .refusal ≡ 0 = by-move (λ u. u .refusal ≡ 0) s (masks .first) output (λ n. p .unrefused) (p .unrefused) in
-      let x =
-      on-steady (v .session) piece end message control (v .output) (move-shaped s (masks .first) output h) (move-range s (masks .first) output e) z in
-      rw t (record { range = x .range; shaped = x .shaped; number = omega (arith, x .number) }))
-      (λ t. rw t (record { range = e; shaped = h; number = m }))
-
-  read-steady : Shaped s → inRange s ≡ true → Steady 19 (readCall s piece end masks message control output .turn)
-  read-steady h e = read-most 19 (omega arith) (read-number s e (masks .first) message control output) h e
+      rw t
+      (on-steady (v .session) piece end message control (v .output) (move-shaped s (masks .first) output h) (move-range s (masks .first) output e)
+      z))
+      (λ t. rw t (record { range = e; shaped = h; number = read-number s e (masks .first) message control output }))
 
   pub range-stays-read : Shaped s → inRange s ≡ true → inRange (readCall s piece end masks message control output .turn .session) ≡ true
   range-stays-read h e = read-steady h e .range
@@ -134,12 +130,6 @@ module _ (s : Session) (piece : List ℕ) (end : Bool) (masks : Masks) (message 
 
   pub never-twenty-read : Shaped s → inRange s ≡ true → readCall s piece end masks message control output .turn .answer ≡ Refused 20 → ⊥
   never-twenty-read h e a = omega (arith, read-steady h e .number, ap refusalOf a)
-
-  -- 19 is a server's
-  pub never-nineteen-client : isServer (s .settings) ≡ false → Shaped s → inRange s ≡ true
-      → readCall s piece end masks message control output .turn .answer ≡ Refused 19 → ⊥
-  never-nineteen-client c h e a =
-      omega (arith, read-most 18 (omega arith) (client-number s e c (masks .first) message control output) h e .number, ap refusalOf a)
 
 -- ---- sending
 abbrev pub sentNumber : Sent → ℕ

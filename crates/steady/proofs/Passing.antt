@@ -68,15 +68,6 @@ module _ (s : Session) (e : inRange s ≡ true) where
       let known : s .refusal ≤ 19 = ⊎-elim (λ z. omega arith) (λ p. omega arith) (in-range s e .refusal-known) in
       rw e (first-most 19 tests (omega arith))
 
-  pub client-number : isServer (s .settings) ≡ false → (mask message control output : List ℕ) → firstOf (readTests s mask message control output) ≤ 18
-  unfolding readTests firstOf
-  client-number c mask message control output =
-      let tests : List Test = (1 when storesShort s message control output)
-      ∷ (2 when isTerminated (s .state))
-      ∷ (s .refusal when not (eqb (s .refusal) 0)) ∷ [] in
-      let known : s .refusal ≤ 18 = ⊎-elim (λ z. omega arith) (λ p. omega arith) (in-range s e .refusal-known) in
-      rw (e, c) (first-most 18 tests (omega arith))
-
   pub send-number : (output : List ℕ) (bad : Bool) → firstOf (sendTests s output bad) ≤ 18
   unfolding sendTests firstOf
   send-number output bad =

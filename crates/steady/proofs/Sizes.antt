@@ -178,6 +178,12 @@ module _ (s : Session) (piece : List ℕ) (end : Bool) (masks : Masks) (message 
   read-grows four short =
       by-test (eqb n 0) (λ t. rw t (omega (arith, on .held, move-grows s (masks .first) output four short))) (λ t. rw t (omega arith))
 
+  pub read-settings : r .turn .session .settings ≡ s .settings
+  unfolding readCall
+  read-settings =
+      let moved : u .session .settings ≡ s .settings = by-move (λ t. t .settings ≡ s .settings) s (masks .first) output (λ k. refl) refl in
+      by-test (eqb n 0) (λ t. rw t (on .settings ∙ moved)) (λ t. rw t)
+
   read-room : RoomFor s message control output → RoomFor (r .turn .session) (r .message) (r .control) (r .output)
   unfolding readCall
   read-room a =

@@ -13,7 +13,7 @@ use Rattle.session.specs.declared.Sent.{Sent}
 use Rattle.session.specs.declared.Sent.the-variants.{Done, Refused as NotSent}
 use Rattle.session.specs.declared.Session.{Session}
 use Rattle.session.specs.Calls.{emptyReply, Read, turn, read, Sending, takeCall}
-use Rattle.session.specs.Session.{withReply, withHeld}
+use Rattle.session.specs.Session.{isServer, withReply, withHeld}
 use Rattle.steady.specs.Cutting.{isEvent, Seen, Run, callAt, readOnce}
 
 -- ---- what is compared
@@ -55,6 +55,10 @@ hindered a = either (refusedBy 1 a) (either (refusedBy 19 a) (refusedBy 20 a))
 unfoldable pub hadRoom : List Seen → Bool
 hadRoom [] = true
 hadRoom (x ∷ xs) = both (not (refusedBy 19 (x .answer))) (hadRoom xs)
+
+-- and 19 is a server's: a run of a client, or one without that answer
+unfoldable pub spared : Run → Bool
+spared run = either (not (isServer (run .session .settings))) (hadRoom (run .trace))
 
 -- ---- a caller
 -- what it does, by the count of the calls before: the masks that it brings to a call, and how much it takes behind it, one take after the
