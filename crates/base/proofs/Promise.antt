@@ -18,8 +18,8 @@ OneStore n ps r seen P =
     (κs : Lfts n) (a : Dens κs ps) (z z′ : resT r κs .Denot) (e e′ : AtExit (endedOf n ps r) κs)
     → P κs a z e → P κs a z′ e′ → seen κs e ≡ seen κs e′
 
--- one content of a part of a lent store that is the answer, which `seen` finds
-abbrev pub OnePart : (n : ℕ) (ps : List (PK n)) (r : RK n) → ((κs : Lfts n) → resT r κs .Denot → List ℕ) → Out n ps r → Type 0
+-- one part of a lent store as the answer: its bytes, and its place, which is the block of memory and the offset in it where it begins
+abbrev pub OnePart : (n : ℕ) (ps : List (PK n)) (r : RK n) → ((κs : Lfts n) → resT r κs .Denot → List ℕ × (ℕ × ℕ)) → Out n ps r → Type 0
 OnePart n ps r seen P =
     (κs : Lfts n) (a : Dens κs ps) (z z′ : resT r κs .Denot) (e e′ : AtExit (endedOf n ps r) κs)
     → P κs a z e → P κs a z′ e′ → seen κs z ≡ seen κs z′

@@ -39,6 +39,18 @@ shown (Close n) message control = take n control
 shown Closed message control = []
 shown (Refused k) message control = []
 
+-- the one of two that belongs to the store that an answer's kind names; the message store's where it names none. A part begins where that
+-- store begins
+abbrev pub named : {X : Type 0} → Answer → X → X → X
+named More message control = message
+named (Text n) message control = message
+named (Binary n) message control = message
+named (Ping n) message control = control
+named (Pong n) message control = control
+named (Close n) message control = control
+named Closed message control = message
+named (Refused k) message control = message
+
 -- ---- the part that is asked for: "a lent store is below its least size", 1, where the event is longer than the store that its kind names.
 -- A part can't be a refusal as well, so the number that would be owed stands beside it, and the part is empty then
 unfoldable pub beyond : List ℕ → ℕ → ℕ

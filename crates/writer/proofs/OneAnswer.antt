@@ -1,6 +1,6 @@
 -- Any two results that meet a promise are equal, for each public function.
 use mathlib.Core.Path.{sym, ap, _∙_}
-use denote.Ref.{now}
+use denote.Ref.{now, ptr}
 use Rattle.base.proofs.Promise.{OneAnswer, OneStore, OnePart}
 use Rattle.session.specs.Calls.{Sending}
 use Rattle.session.specs.Replies.{Out}
@@ -74,8 +74,8 @@ pub held-number-one : OneAnswer 1 held-number.ps held-number.r held-number-reads
 held-number-one κs a z z′ e e′ p q = p ∙ sym q
 
 -- the bytes that the part shows
-pub held-one : OnePart 1 held.ps held.r (λ κs z. now z) held-reads.Post
-held-one κs a z z′ e e′ p q = p ∙ sym q
+pub held-one : OnePart 1 held.ps held.r (λ κs z. (now z, ptr z)) held-reads.Post
+held-one κs a z z′ e e′ p q = λ i. ((p .0 ∙ sym (q .0)) i, (p .1 ∙ sym (q .1)) i)
 
 pub take-one : OneAnswer 1 take.ps take.r take-reads.Post
 take-one κs a z z′ e e′ p q = ap (λ (x : Sending). x .handed) (p ∙ sym q)

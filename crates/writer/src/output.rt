@@ -5,6 +5,7 @@ use session::Session;
 ghost use mathlib.Core.Path.{_≡_};
 ghost use mathlib.Core.Bool.{not};
 ghost use mathlib.Core.List.{_∷_, []};
+ghost use denote.Ref.{ptr};
 ghost use lib.Dec.{ltb};
 ghost use Rattle.base.specs.Tests.{either, _when_, firstOf};
 ghost use Rattle.session.specs.Calls.{sending, takeCall, heldNumber, heldPart, waitsCall};
@@ -56,7 +57,7 @@ pub fn held_number(session: Session, output: &[u8]) -> u8
 
 // The held bytes, as a part of the output store; none where a number is owed.
 pub fn held(session: Session, output: &[u8]) -> &[u8]
-    ensures { λ r. ⌜ now r ≡ heldPart session (now (output .entry)) ⌝ }
+    ensures { λ r. ⌜ (now r ≡ heldPart session (now (output .entry))) × (ptr r ≡ ptr (output .entry)) ⌝ }
 {
     let count = session.held;
     if held_number(session, output) != 0 {

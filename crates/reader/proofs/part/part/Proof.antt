@@ -1,4 +1,5 @@
 -- `reader::part::part` meets its contract, kind by kind.
+use mathlib.Core.Path.{refl}
 use borrow.Author.Needs.{needs}
 use Rattle.session.specs.Answers.{partOf}
 use Rattle.reader.proofs.part.part.Statement.{statement}
@@ -74,15 +75,15 @@ returns-5 c = rw (c .before .before .answer5 .given .1) (c .front5 .ensures)
 
 returns-6 : tie.Need-returns-6
 unfolding partOf
-returns-6 c = rw (c .before .enum-told .given .1)
+returns-6 c = rw (c .before .enum-told .given .1) (refl, refl)
 
 returns-7 : tie.Need-returns-7
 unfolding partOf
-returns-7 c = rw (c .before .enum-told2 .given .1)
+returns-7 c = rw (c .before .enum-told2 .given .1) (refl, refl)
 
 returns-8 : tie.Need-returns-8
 unfolding partOf
-returns-8 c = rw (c .before .enum-told3 .given .1)
+returns-8 c = rw (c .before .enum-told3 .given .1) (refl, refl)
 
 pub part-spec : {M : Type 1} → statement M
 part-spec =
