@@ -1,0 +1,78 @@
+-- `lines::line::put_counted` meets its contract.
+use native.Mathlib.Omega.{arith}
+use lib.ListN.{length}
+use borrow.Author.Needs.{needs}
+use Rattle.lines.proofs.Laws.{length-decimal, length-shown, counted-on}
+use Rattle.lines.proofs.line.put_counted.Statement.{statement}
+use Rattle.lines.proofs.line.put_counted.Tie as tie
+
+put-word-requires : tie.Need-put-word-requires
+put-word-requires c κs = search needs
+
+put-byte-requires : tie.Need-put-byte-requires
+put-byte-requires c κs = search needs
+
+put-decimal-requires : tie.Need-put-decimal-requires
+put-decimal-requires c κs = search needs
+
+put-shown-requires : tie.Need-put-shown-requires
+put-shown-requires c κs =
+    let number = c .before .before .before in
+    let space = number .before .before .before .before in
+    let word = space .before .before .before .before in
+    let start = word .before .before .before .before .before in
+    omega
+    (arith,
+    start .pre,
+    word .put-word .ensures .0,
+    word .put-word .kept,
+    space .put-byte .ensures .0,
+    space .put-byte .kept,
+    number .put-decimal .ensures .0,
+    number .put-decimal .kept,
+    length-decimal (length (start .args .bytes .now)))
+
+put-byte-requires-2 : tie.Need-put-byte-requires-2
+put-byte-requires-2 c κs =
+    let digits = c .before .before .before in
+    let number = digits .before .before .before .before in
+    let space = number .before .before .before .before in
+    let word = space .before .before .before .before in
+    let start = word .before .before .before .before .before in
+    omega
+    (arith,
+    start .pre,
+    word .put-word .ensures .0,
+    word .put-word .kept,
+    space .put-byte .ensures .0,
+    space .put-byte .kept,
+    number .put-decimal .ensures .0,
+    number .put-decimal .kept,
+    digits .put-shown .ensures .0,
+    digits .put-shown .kept,
+    length-decimal (length (start .args .bytes .now)),
+    length-shown (start .args .bytes .now))
+
+same-length : tie.Need-same-length
+same-length c = search needs
+
+returns : tie.Need-returns
+returns c =
+    let end = c .before .before in
+    let digits = end .before .before .before .before in
+    let number = digits .before .before .before .before in
+    let space = number .before .before .before .before in
+    let word = space .before .before .before .before in
+    counted-on _ _ _ _ (word .put-word .ensures) (space .put-byte .ensures) (number .put-decimal .ensures) (digits .put-shown .ensures) (end .put-byte2 .ensures)
+
+pub put-counted-spec : {M : Type 1} → statement M
+put-counted-spec =
+    tie.close
+    (tie.spec
+    put-word-requires
+    put-byte-requires
+    put-decimal-requires
+    put-shown-requires
+    put-byte-requires-2
+    same-length
+    returns)
