@@ -24,127 +24,9 @@ abbrev put-digits-below : ℕ → In 1 put-digits-kinds.ps
 put-digits-below t =
     and 1 put-digits-kinds.ps (falls 1 put-digits-kinds.ps _<_ μ-put-digits t) put-digits.Pre
 
-put-digits-returns : (t : ℕ) → put-digits-lts.Need-returns (
-  digit-reads.Asked,
-  digit-reads.Learnt,
-  put-byte-reads.Asked,
-  put-byte-reads.Learnt,
-  put-digits-below t,
-  put-digits.Post,
-) (put-digits-at t) put-digits.Post
-put-digits-returns t c = digits-none _ _ _ (c .before .before .args .n) (c .if1 .taken)
-
-put-digits-cast-digit : (t : ℕ) → put-digits-lts.Need-cast-digit (
-  digit-reads.Asked,
-  digit-reads.Learnt,
-  put-byte-reads.Asked,
-  put-byte-reads.Learnt,
-  put-digits-below t,
-  put-digits.Post,
-) (put-digits-at t) put-digits.Post
-put-digits-cast-digit t c = omega arith
-
-put-digits-digit-requires : (t : ℕ) → put-digits-lts.Need-digit-requires (
-  digit-reads.Asked,
-  digit-reads.Learnt,
-  put-byte-reads.Asked,
-  put-byte-reads.Learnt,
-  put-digits-below t,
-  put-digits.Post,
-) (put-digits-at t) put-digits.Post
-put-digits-digit-requires t c κs = tt
-
-put-digits-put-byte-requires : (t : ℕ) → put-digits-lts.Need-put-byte-requires (
-  digit-reads.Asked,
-  digit-reads.Learnt,
-  put-byte-reads.Asked,
-  put-byte-reads.Learnt,
-  put-digits-below t,
-  put-digits.Post,
-) (put-digits-at t) put-digits.Post
-put-digits-put-byte-requires t c κs = omega (arith, c .before .before .before .before .before .pre .1)
-
-put-digits-same-length : (t : ℕ) → put-digits-lts.Need-same-length (
-  digit-reads.Asked,
-  digit-reads.Learnt,
-  put-byte-reads.Asked,
-  put-byte-reads.Learnt,
-  put-digits-below t,
-  put-digits.Post,
-) (put-digits-at t) put-digits.Post
-put-digits-same-length t c = c .before .before .put-byte .kept .1 .0
-
-put-digits-returns-2 : (t : ℕ) → put-digits-lts.Need-returns-2 (
-  digit-reads.Asked,
-  digit-reads.Learnt,
-  put-byte-reads.Asked,
-  put-byte-reads.Learnt,
-  put-digits-below t,
-  put-digits.Post,
-) (put-digits-at t) put-digits.Post
-put-digits-returns-2 t c = 
-    let d = c .before .before .before .before .before in
-    let a = d .before .before .before .args in
-    digits-few _ _ (a .k) (a .n) (omega arith) (c .before .before .before .before .if2 .taken) (d .digit .ensures) (c .before .before .put-byte .ensures)
-
-put-digits-sub-put-digits : (t : ℕ) → put-digits-lts.Need-sub-put-digits (
-  digit-reads.Asked,
-  digit-reads.Learnt,
-  put-byte-reads.Asked,
-  put-byte-reads.Learnt,
-  put-digits-below t,
-  put-digits.Post,
-) (put-digits-at t) put-digits.Post
-put-digits-sub-put-digits t c = omega arith
-
-put-digits-put-digits-requires : (t : ℕ) → put-digits-lts.Need-put-digits-requires (
-  digit-reads.Asked,
-  digit-reads.Learnt,
-  put-byte-reads.Asked,
-  put-byte-reads.Learnt,
-  put-digits-below t,
-  put-digits.Post,
-) (put-digits-at t) put-digits.Post
-put-digits-put-digits-requires t c κs = (omega (arith, c .before .before .before .before .before .pre .0), omega (arith, c .before .before .before .before .before .pre .1))
-
-put-digits-put-byte-requires-2 : (t : ℕ) → put-digits-lts.Need-put-byte-requires-2 (
-  digit-reads.Asked,
-  digit-reads.Learnt,
-  put-byte-reads.Asked,
-  put-byte-reads.Learnt,
-  put-digits-below t,
-  put-digits.Post,
-) (put-digits-at t) put-digits.Post
-put-digits-put-byte-requires-2 t c κs = 
-    let d = c .before .before .before .put-digits in
-    let a = c .before .before .before .before .before .before .before .before .before .args in
-    omega (arith, d .ensures .0, d .kept, length-decimalIn (a .k - 1) (a .n / 10))
-
-put-digits-same-length-2 : (t : ℕ) → put-digits-lts.Need-same-length-2 (
-  digit-reads.Asked,
-  digit-reads.Learnt,
-  put-byte-reads.Asked,
-  put-byte-reads.Learnt,
-  put-digits-below t,
-  put-digits.Post,
-) (put-digits-at t) put-digits.Post
-put-digits-same-length-2 t c = search needs
-
-put-digits-returns-3 : (t : ℕ) → put-digits-lts.Need-returns-3 (
-  digit-reads.Asked,
-  digit-reads.Learnt,
-  put-byte-reads.Asked,
-  put-byte-reads.Learnt,
-  put-digits-below t,
-  put-digits.Post,
-) (put-digits-at t) put-digits.Post
-put-digits-returns-3 t c = 
-    let d = c .before .before .before .before .before .before .before .before .before in
-    let a = d .before .before .before .args in
-    digits-many _ _ (a .k) (a .n) (omega arith) (c .before .before .before .before .before .before .before .before .if2 .left) (d .digit .ensures) (c .before .before .before .before .before .before .put-digits .ensures) (c .before .before .put-byte2 .ensures)
-
-pub +put-digits-spec : {M : Type 1} → statement M
-+put-digits-spec = close μ-put-digits λ t. put-digits-lts.spec (
+-- what each call asks and gives, a call of itself at fewer digits
+abbrev claims : ℕ → put-digits-lts.Claims
+claims t = (
   digit-reads.Asked,
   digit-reads.Learnt,
   put-byte-reads.Asked,
@@ -152,6 +34,51 @@ pub +put-digits-spec : {M : Type 1} → statement M
   put-digits-below t,
   put-digits.Post,
 )
+
+put-digits-returns : (t : ℕ) → put-digits-lts.Need-returns (claims t) (put-digits-at t) put-digits.Post
+put-digits-returns t c = digits-none _ _ _ (c .before .before .args .n) (c .if1 .taken)
+
+put-digits-cast-digit : (t : ℕ) → put-digits-lts.Need-cast-digit (claims t) (put-digits-at t) put-digits.Post
+put-digits-cast-digit t c = omega arith
+
+put-digits-digit-requires : (t : ℕ) → put-digits-lts.Need-digit-requires (claims t) (put-digits-at t) put-digits.Post
+put-digits-digit-requires t c κs = tt
+
+put-digits-put-byte-requires : (t : ℕ) → put-digits-lts.Need-put-byte-requires (claims t) (put-digits-at t) put-digits.Post
+put-digits-put-byte-requires t c κs = omega (arith, c .before .before .before .before .before .pre .1)
+
+put-digits-same-length : (t : ℕ) → put-digits-lts.Need-same-length (claims t) (put-digits-at t) put-digits.Post
+put-digits-same-length t c = c .before .before .put-byte .kept .1 .0
+
+put-digits-returns-2 : (t : ℕ) → put-digits-lts.Need-returns-2 (claims t) (put-digits-at t) put-digits.Post
+put-digits-returns-2 t c = 
+    let d = c .before .before .before .before .before in
+    let a = d .before .before .before .args in
+    digits-few _ _ (a .k) (a .n) (omega arith) (c .before .before .before .before .if2 .taken) (d .digit .ensures) (c .before .before .put-byte .ensures)
+
+put-digits-sub-put-digits : (t : ℕ) → put-digits-lts.Need-sub-put-digits (claims t) (put-digits-at t) put-digits.Post
+put-digits-sub-put-digits t c = omega arith
+
+put-digits-put-digits-requires : (t : ℕ) → put-digits-lts.Need-put-digits-requires (claims t) (put-digits-at t) put-digits.Post
+put-digits-put-digits-requires t c κs = (omega (arith, c .before .before .before .before .before .pre .0), omega (arith, c .before .before .before .before .before .pre .1))
+
+put-digits-put-byte-requires-2 : (t : ℕ) → put-digits-lts.Need-put-byte-requires-2 (claims t) (put-digits-at t) put-digits.Post
+put-digits-put-byte-requires-2 t c κs = 
+    let d = c .before .before .before .put-digits in
+    let a = c .before .before .before .before .before .before .before .before .before .args in
+    omega (arith, d .ensures .0, d .kept, length-decimalIn (a .k - 1) (a .n / 10))
+
+put-digits-same-length-2 : (t : ℕ) → put-digits-lts.Need-same-length-2 (claims t) (put-digits-at t) put-digits.Post
+put-digits-same-length-2 t c = search needs
+
+put-digits-returns-3 : (t : ℕ) → put-digits-lts.Need-returns-3 (claims t) (put-digits-at t) put-digits.Post
+put-digits-returns-3 t c = 
+    let d = c .before .before .before .before .before .before .before .before .before in
+    let a = d .before .before .before .args in
+    digits-many _ _ (a .k) (a .n) (omega arith) (c .before .before .before .before .before .before .before .before .if2 .left) (d .digit .ensures) (c .before .before .before .before .before .before .put-digits .ensures) (c .before .before .put-byte2 .ensures)
+
+pub +put-digits-spec : {M : Type 1} → statement M
++put-digits-spec = close μ-put-digits λ t. put-digits-lts.spec (claims t)
     (put-digits-at t)
     put-digits.Post
     (put-digits-returns t)
