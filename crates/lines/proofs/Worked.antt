@@ -1,6 +1,6 @@
 -- Some texts computed from the definitions, beside their ASCII numbers.
 use mathlib.Core.Path.{_≡_, refl}
-use mathlib.Core.List.{List, [], _∷_, _++_}
+use mathlib.Core.List.{List, [], _∷_}
 use Prim.Native.Nat.{ℕ}
 use Rattle.lines.specs.Text.{digitOf, decimalIn, decimal, hex, shownHex, counted, atPlace}
 

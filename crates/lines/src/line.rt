@@ -1,5 +1,4 @@
 // Whole lines.
-ghost use mathlib.Core.List.{_++_};
 ghost use Prim.Native.Nat.{_+_, _≤_};
 ghost use lib.ListN.{length};
 ghost use Rattle.lines.specs.Text.{Wrote, shownHex, counted, atPlace};

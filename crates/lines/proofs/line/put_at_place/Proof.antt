@@ -18,21 +18,7 @@ put-decimal-requires : tie.Need-put-decimal-requires
 put-decimal-requires c κs = search needs
 
 put-byte-requires : tie.Need-put-byte-requires
-put-byte-requires c κs =
-    let number = c .before .before .before in
-    let joined = number .before .before .before .before in
-    let words = joined .before .before .before .before .before in
-    let start = words .before .before .before .before in
-    omega
-    (arith,
-    start .pre,
-    words .put-word .ensures .0,
-    words .put-word .kept,
-    joined .put-word2 .ensures .0,
-    joined .put-word2 .kept,
-    number .put-decimal .ensures .0,
-    number .put-decimal .kept,
-    length-decimal (start .args .place))
+put-byte-requires c κs = omega (arith, length-decimal (c .before .before .before .before .before .before .before .before .before .before .before .before .before .before .before .before .args .place))
 
 same-length : tie.Need-same-length
 same-length c = search needs

@@ -17,41 +17,13 @@ put-decimal-requires c κs = search needs
 
 put-shown-requires : tie.Need-put-shown-requires
 put-shown-requires c κs =
-    let number = c .before .before .before in
-    let space = number .before .before .before .before in
-    let word = space .before .before .before .before in
-    let start = word .before .before .before .before .before in
-    omega
-    (arith,
-    start .pre,
-    word .put-word .ensures .0,
-    word .put-word .kept,
-    space .put-byte .ensures .0,
-    space .put-byte .kept,
-    number .put-decimal .ensures .0,
-    number .put-decimal .kept,
-    length-decimal (length (start .args .bytes .now)))
+    let bytes = c .before .before .before .before .before .before .before .before .before .before .before .before .before .before .before .before .args .bytes .now in
+    omega (arith, length-decimal (length bytes))
 
 put-byte-requires-2 : tie.Need-put-byte-requires-2
 put-byte-requires-2 c κs =
-    let digits = c .before .before .before in
-    let number = digits .before .before .before .before in
-    let space = number .before .before .before .before in
-    let word = space .before .before .before .before in
-    let start = word .before .before .before .before .before in
-    omega
-    (arith,
-    start .pre,
-    word .put-word .ensures .0,
-    word .put-word .kept,
-    space .put-byte .ensures .0,
-    space .put-byte .kept,
-    number .put-decimal .ensures .0,
-    number .put-decimal .kept,
-    digits .put-shown .ensures .0,
-    digits .put-shown .kept,
-    length-decimal (length (start .args .bytes .now)),
-    length-shown (start .args .bytes .now))
+    let bytes = c .before .before .before .before .before .before .before .before .before .before .before .before .before .before .before .before .before .before .before .before .args .bytes .now in
+    omega (arith, length-decimal (length bytes), length-shown bytes)
 
 same-length : tie.Need-same-length
 same-length c = search needs

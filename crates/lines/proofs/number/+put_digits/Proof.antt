@@ -45,37 +45,39 @@ put-digits-digit-requires : (t : ℕ) → put-digits-lts.Need-digit-requires (cl
 put-digits-digit-requires t c κs = tt
 
 put-digits-put-byte-requires : (t : ℕ) → put-digits-lts.Need-put-byte-requires (claims t) (put-digits-at t) put-digits.Post
-put-digits-put-byte-requires t c κs = omega (arith, c .before .before .before .before .before .pre .1)
+put-digits-put-byte-requires t c κs = omega arith
 
 put-digits-same-length : (t : ℕ) → put-digits-lts.Need-same-length (claims t) (put-digits-at t) put-digits.Post
 put-digits-same-length t c = c .before .before .put-byte .kept .1 .0
 
 put-digits-returns-2 : (t : ℕ) → put-digits-lts.Need-returns-2 (claims t) (put-digits-at t) put-digits.Post
-put-digits-returns-2 t c = 
-    let d = c .before .before .before .before .before in
-    let a = d .before .before .before .args in
-    digits-few _ _ (a .k) (a .n) (omega arith) (c .before .before .before .before .if2 .taken) (d .digit .ensures) (c .before .before .put-byte .ensures)
+put-digits-returns-2 t c =
+    let byte = c .before .before in
+    let few = byte .before .before in
+    let a = few .before .before .before .before .args in
+    digits-few _ _ (a .k) (a .n) (omega arith) (few .if2 .taken) (few .before .digit .ensures) (byte .put-byte .ensures)
 
 put-digits-sub-put-digits : (t : ℕ) → put-digits-lts.Need-sub-put-digits (claims t) (put-digits-at t) put-digits.Post
 put-digits-sub-put-digits t c = omega arith
 
 put-digits-put-digits-requires : (t : ℕ) → put-digits-lts.Need-put-digits-requires (claims t) (put-digits-at t) put-digits.Post
-put-digits-put-digits-requires t c κs = (omega (arith, c .before .before .before .before .before .pre .0), omega (arith, c .before .before .before .before .before .pre .1))
+put-digits-put-digits-requires t c κs = (omega arith, omega arith)
 
 put-digits-put-byte-requires-2 : (t : ℕ) → put-digits-lts.Need-put-byte-requires-2 (claims t) (put-digits-at t) put-digits.Post
-put-digits-put-byte-requires-2 t c κs = 
-    let d = c .before .before .before .put-digits in
+put-digits-put-byte-requires-2 t c κs =
     let a = c .before .before .before .before .before .before .before .before .before .args in
-    omega (arith, d .ensures .0, d .kept, length-decimalIn (a .k - 1) (a .n / 10))
+    omega (arith, length-decimalIn (a .k - 1) (a .n / 10))
 
 put-digits-same-length-2 : (t : ℕ) → put-digits-lts.Need-same-length-2 (claims t) (put-digits-at t) put-digits.Post
 put-digits-same-length-2 t c = search needs
 
 put-digits-returns-3 : (t : ℕ) → put-digits-lts.Need-returns-3 (claims t) (put-digits-at t) put-digits.Post
-put-digits-returns-3 t c = 
-    let d = c .before .before .before .before .before .before .before .before .before in
-    let a = d .before .before .before .args in
-    digits-many _ _ (a .k) (a .n) (omega arith) (c .before .before .before .before .before .before .before .before .if2 .left) (d .digit .ensures) (c .before .before .before .before .before .before .put-digits .ensures) (c .before .before .put-byte2 .ensures)
+put-digits-returns-3 t c =
+    let byte = c .before .before in
+    let front = byte .before .before .before .before in
+    let many = front .before .before in
+    let a = many .before .before .before .before .args in
+    digits-many _ _ (a .k) (a .n) (omega arith) (many .if2 .left) (many .before .digit .ensures) (front .put-digits .ensures) (byte .put-byte2 .ensures)
 
 pub +put-digits-spec : {M : Type 1} → statement M
 +put-digits-spec = close μ-put-digits λ t. put-digits-lts.spec (claims t)
