@@ -1,5 +1,5 @@
 -- Laws of what an event leaves: a ping that came and a close that came, by the session's state.
-use mathlib.Core.Path.{_≡_}
+use mathlib.Core.Path.{_≡_, refl, ap, _∙_}
 use mathlib.Core.Bool.{true, false}
 use mathlib.Core.List.{List}
 use Prim.Native.Nat.{ℕ}
@@ -8,43 +8,43 @@ use lib.Dec.{eqb}
 use lib.ListN.{take}
 use borrow.Author.Tests.{eq-eqb, ne-eqb}
 use Rattle.base.specs.Stores.{laid}
+use Rattle.base.specs.Table.{pick}
+use Rattle.base.proofs.Choice.{by-test}
 use Rattle.frame.specs.Close.{closeOf, closeBytes, violation}
-use Rattle.session.specs.declared.Answer.{Answer}
 use Rattle.session.specs.declared.Answer.the-variants.{Ping, Close}
 use Rattle.session.specs.declared.Reply.{Reply}
 use Rattle.session.specs.declared.Session.{Session}
 use Rattle.session.specs.declared.Waiting.the-variants.{Close as CloseReply}
 use Rattle.session.specs.Replies.{concluded, codeAllowed, replyOf, withPong, shownLength, shownControl, closeCame, pingCame}
-use Rattle.session.specs.Session.{withState, withReply}
+use Rattle.session.specs.Session.{isActive, withState, withReply}
+
+-- ---- what an answered close shows: itself, or 1002 in its place
+module _ (control : List ℕ) (n : ℕ) where
+  pub shown-itself : codeAllowed (closeOf (take n control)) ≡ true → (n ≡ shownLength control n) × (control ≡ shownControl control n)
+  unfolding shownLength shownControl
+  shown-itself l = rw l (refl, refl)
+
+  pub shown-replaced : {d : List ℕ} → codeAllowed (closeOf (take n control)) ≡ false → d ≡ laid control 0 (closeBytes 1002 violation)
+      → (20 ≡ shownLength control n) × (d ≡ shownControl control n)
+  unfolding shownLength shownControl
+  shown-replaced l u = rw l (refl, u)
 
 module _ (s : Session) (control : List ℕ) (n : ℕ) where
   -- ---- a ping: it makes a pong in Active, and nothing in another state
-  pub ping-active : {q : Reply} → s .state ≡ 0 → q ≡ withPong (s .reply) (take n control)
+  pub ping-left : {q : Reply} → q ≡ pick (isActive (s .state)) (withPong (s .reply) (take n control)) (s .reply)
       → concluded (Ping n) (withReply s q) control ≡ pingCame s control n
   unfolding pingCame
-  ping-active {q} e p =
-      let t : eqb (s .state) 0 ≡ true = eq-eqb (s .state) 0 e in
-      rw t (λ i. concluded (Ping n) (withReply s (p i)) control)
+  ping-left p =
+      ap (λ (q : Reply). concluded (Ping n) (withReply s q) control) p
+      ∙ by-test (isActive (s .state)) (λ t. rw t) (λ t. rw t)
 
-  pub ping-other : (s .state ≡ 0 → ⊥) → concluded (Ping n) s control ≡ pingCame s control n
-  unfolding pingCame
-  ping-other h = let t : eqb (s .state) 0 ≡ false = ne-eqb (s .state) 0 h in rw t
-
-  -- ---- a close in Active: it is echoed, or 1002 takes its place in the store, in the event and in the reply
-  pub close-echoed : {a : Answer} {r : Session} → s .state ≡ 0 → codeAllowed (closeOf (take n control)) ≡ true → a ≡ Close n
-      → r ≡ withState (withReply s (replyOf (s .reply) CloseReply (take n control))) 2 → concluded a r control ≡ closeCame s control n
-  unfolding closeCame shownLength shownControl
-  close-echoed e l p q =
+  -- ---- a close in Active: the reply echoes what is shown
+  pub close-answered : {m : ℕ} {d : List ℕ} {q : Reply} → s .state ≡ 0 → m ≡ shownLength control n → d ≡ shownControl control n
+      → q ≡ replyOf (s .reply) CloseReply (take m d) → concluded (Close m) (withState (withReply s q) 2) d ≡ closeCame s control n
+  unfolding closeCame
+  close-answered {m} {d} e u v p =
       let t : eqb (s .state) 0 ≡ true = eq-eqb (s .state) 0 e in
-      rw (t, l) (λ i. concluded (p i) (q i) control)
-
-  pub close-replaced : {a : Answer} {r : Session} {d : List ℕ} → s .state ≡ 0 → codeAllowed (closeOf (take n control)) ≡ false
-      → d ≡ laid control 0 (closeBytes 1002 violation) → a ≡ Close 20
-      → r ≡ withState (withReply s (replyOf (s .reply) CloseReply (take 20 d))) 2 → concluded a r d ≡ closeCame s control n
-  unfolding closeCame shownLength shownControl
-  close-replaced {a} {r} {d} e l u p q =
-      let t : eqb (s .state) 0 ≡ true = eq-eqb (s .state) 0 e in
-      rw (t, l, ← u) (λ i. concluded (p i) (q i) d)
+      rw (t, ← u, ← v) (λ i. concluded (Close m) (withState (withReply s (p i)) 2) d)
 
   -- ---- a close in another state: it is shown as received
   pub close-acknowledged : s .state ≡ 1 → concluded (Close n) (withState s 3) control ≡ closeCame s control n

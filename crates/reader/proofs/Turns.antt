@@ -1,10 +1,11 @@
 -- Laws of a read call once its reply has moved: what bytes lead to, what an event leaves, and the flag.
-use mathlib.Core.Path.{_≡_, sym, ap, subst, _∙_}
+use mathlib.Core.Path.{_≡_, refl, sym, ap, subst, _∙_}
 use mathlib.Core.Bool.{Bool, true, false}
 use mathlib.Core.List.{List}
 use Prim.Native.Nat.{ℕ}
 use lib.ListN.{length}
 use Rattle.base.specs.Tests.{both}
+use Rattle.base.proofs.Choice.{by-test}
 use Rattle.session.specs.declared.Answer.{Answer}
 use Rattle.session.specs.declared.Answer.the-variants.{More, Text, Binary, Ping, Pong, Close, Closed, Refused}
 use Rattle.session.specs.declared.Incoming.{Incoming}
@@ -22,25 +23,30 @@ use Rattle.steady.proofs.Frames.{Fair}
 use Rattle.steady.proofs.InRangeStays.{fed, fed-fine}
 use Rattle.steady.proofs.OneCall.{outcome}
 use Rattle.reader.specs.Fit.{Shows}
+use Rattle.reader.specs.Whole.{flagAnswer, flagState}
 
 -- ---- the flag: acted on where there was no event, else not
-module _ (end : Bool) (a : Answer) (s : Session) (n : ℕ) (control : List ℕ) where
-  pub flag-closed : end ≡ true → isMore a ≡ true → isPeerClosed (s .state) ≡ true → turn Closed n (withState s 4) ≡ flagged end (concluded a s control) n
-  unfolding flagged
-  flag-closed e m p = rw (e, m, p)
+module _ (end : Bool) (a : Answer) (state : ℕ) where
+  pub flag-closed : end ≡ true → isMore a ≡ true → isPeerClosed state ≡ true → (Closed ≡ flagAnswer end a state) × (4 ≡ flagState end a state)
+  unfolding flagAnswer flagState
+  flag-closed e m p = rw (e, m, p) (refl, refl)
 
-  pub flag-early : end ≡ true → isMore a ≡ true → isPeerClosed (s .state) ≡ false
-      → turn (Refused 16) n (withState s 4) ≡ flagged end (concluded a s control) n
-  unfolding flagged
-  flag-early e m p = rw (e, m, p)
+  pub flag-early : end ≡ true → isMore a ≡ true → isPeerClosed state ≡ false → (Refused 16 ≡ flagAnswer end a state) × (4 ≡ flagState end a state)
+  unfolding flagAnswer flagState
+  flag-early e m p = rw (e, m, p) (refl, refl)
 
-  pub flag-event : isMore a ≡ false → turn a n s ≡ flagged end (concluded a s control) n
-  unfolding flagged
-  flag-event m = rw (m, both-none end)
+  pub flag-event : isMore a ≡ false → (a ≡ flagAnswer end a state) × (state ≡ flagState end a state)
+  unfolding flagAnswer flagState
+  flag-event m = rw (m, both-none end) (refl, refl)
 
-  pub flag-off : end ≡ false → turn a n s ≡ flagged end (concluded a s control) n
-  unfolding flagged
-  flag-off e = rw e
+  pub flag-off : end ≡ false → (a ≡ flagAnswer end a state) × (state ≡ flagState end a state)
+  unfolding flagAnswer flagState
+  flag-off e = rw e (refl, refl)
+
+pub flag-parts : (end : Bool) (d : Concluded) (n : ℕ)
+    → turn (flagAnswer end (d .answer) (d .session .state)) n (withState (d .session) (flagState end (d .answer) (d .session .state))) ≡ flagged end d n
+unfolding flagged flagAnswer flagState
+flag-parts end d n = by-test (both end (isMore (d .answer))) (λ t. rw t) (λ t. rw t)
 
 -- ---- an answer that bytes lead to can be concluded
 fair-shows : (a : Answer) → Fair a → Shows a
@@ -63,12 +69,13 @@ module _ (s : Session) (piece message control : List ℕ) {i : Incoming} {m c : 
       ∙ fed-sizes (s .settings) (s .state) (world (s .incoming) message control More) piece .control
 
   -- ---- from what taking, concluding and the flag promise
-  pub take-done : (end : Bool) {c′ : List ℕ} {a′ : Answer} {u : Session} {r : Turn} → concluded a′ u c′ ≡ conclude a (withIncoming s i) c
-      → ((k : List ℕ) → r ≡ flagged end (concluded a′ u k) n)
-      → (output : List ℕ) → read r m c′ output ≡ takeBytes s piece end message control output
+  pub take-done : (end : Bool) {c′ : List ℕ} {a′ told : Answer} {u : Session} {state : ℕ} → concluded a′ u c′ ≡ conclude a (withIncoming s i) c
+      → told ≡ flagAnswer end a′ (u .state) → state ≡ flagState end a′ (u .state)
+      → (output : List ℕ) → read (turn told n (withState u state)) m c′ output ≡ takeBytes s piece end message control output
   unfolding takeBytes
-  take-done end {c′} {a′} {u} {r} left flag output =
-      ap (λ (t : Turn). read t m c′ output) (flag c′)
+  take-done end {c′} {a′} {told} {u} {state} left p q output =
+      (λ j. read (turn (p j) n (withState u (q j))) m c′ output)
+      ∙ ap (λ (t : Turn). read t m c′ output) (flag-parts end (concluded a′ u c′) n)
       ∙ ap (λ (d : Concluded). read (flagged end d n) m (d .control) output) left
       ∙ ap (λ (x : At). outcome s end output x) come
 

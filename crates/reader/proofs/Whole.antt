@@ -13,19 +13,22 @@ use Rattle.base.proofs.Tests.{settled, first-clear}
 use Rattle.frame.specs.Header.{headerSize}
 use Rattle.session.specs.declared.Answer.the-variants.{Refused}
 use Rattle.session.specs.declared.Masks.{Masks}
+use Rattle.session.specs.declared.Reply.{Reply}
 use Rattle.session.specs.declared.Session.{Session}
 use Rattle.session.specs.declared.Turn.{Turn}
 use Rattle.session.specs.declared.Waiting.{Waiting}
 use Rattle.session.specs.declared.Waiting.the-variants.{Nothing, Pong, Close}
 use Rattle.session.specs.Calls.{storesShort, turn, read, readTests, readOn, readCall}
-use Rattle.session.specs.Range.{waits, inRange}
-use Rattle.session.specs.Replies.{isCloseReply, Out, out, moveReply}
-use Rattle.session.specs.Session.{isServer, isClient, isTerminated}
+use Rattle.session.specs.Range.{waits, rangeOf, inRange}
+use Rattle.session.specs.Replies.{isCloseReply, Out, moveReply}
+use Rattle.session.specs.Session.{isServer, isClient, isTerminated, withReply, withHeld}
+use Rattle.session.proofs.InRange.{range-session}
 use Rattle.steady.proofs.Again.{Room, stores-room}
 use Rattle.steady.proofs.Moves.{move-range}
 use Rattle.steady.proofs.Parts.{in-range}
 use Rattle.steady.proofs.Passing.{lateClose}
-use Rattle.writer.proofs.Moving.{reply-fits-by, moved-settings}
+use Rattle.writer.specs.Moves.{moving, moveOf}
+use Rattle.writer.proofs.Moving.{reply-fits-by, reply-frame, parts-move}
 
 -- ---- a session's own refusal is the number, or there is none
 pub repeated : (n : ℕ) → n ≡ firstOf ((n when not (eqb n 0)) ∷ [])
@@ -74,16 +77,16 @@ late-by s mask output four size e =
     by-test (isCloseReply (s .reply .waiting))
     (λ t.
     let short : s .reply .length ≤ 125 = in-range s e .reply-short (close-waits (s .reply .waiting) t) in
-    rw (reply-fits-by s mask output four (omega arith)))
+    rw (reply-frame s mask, reply-fits-by (isClient (s .settings)) (s .reply) (s .held) mask output four (omega arith)))
     (λ t. rw t)
 
--- ---- a reply that moved, or not, leaves the session in range, with its settings
-module _ (s : Session) (mask output : List ℕ) {v : Session} {o : List ℕ} (m : out v o ≡ moveReply s mask output) where
-  pub moved-range : inRange s ≡ true → inRange v ≡ true
-  moved-range e = subst (λ (x : Out). inRange (x .session) ≡ true) (sym m) (move-range s mask output e)
-
-  pub moved-limit : v .settings .message ≡ s .settings .message
-  moved-limit = ap (λ (x : Out). x .session .settings .message) m ∙ ap (λ g. g .message) (moved-settings s mask output)
+-- ---- a reply that moved, or not, leaves the session in range
+pub moved-range : (s : Session) (mask output : List ℕ) {q : Reply} {n : ℕ} {o : List ℕ}
+    → moving q n o ≡ moveOf (isClient (s .settings)) (s .reply) (s .held) mask output → inRange s ≡ true
+    → rangeOf (s .settings) (s .state) (s .refusal) (s .incoming) (q .waiting) (q .length) ≡ true
+moved-range s mask output {q} {n} m e =
+    sym (range-session (withHeld (withReply s q) n))
+    ∙ subst (λ (x : Out). inRange (x .session) ≡ true) (sym (parts-move s mask output m)) (move-range s mask output e)
 
 -- ---- the call
 module _ (s : Session) (piece : List ℕ) (end : Bool) (masks : Masks) (message control output : List ℕ) where
@@ -106,12 +109,13 @@ module _ (s : Session) (piece : List ℕ) (end : Bool) (masks : Masks) (message 
     unfolding readCall firstOf
     read-stuck l = rw (last, l)
 
-    pub read-goes-on : lateClose s (masks .first) output ≡ false → {v : Session} {m c o : List ℕ} {r : Turn}
-        → out v o ≡ moveReply s (masks .first) output
-        → ((k : List ℕ) → read r m c k ≡ readOn v piece end message control k)
+    pub read-goes-on : lateClose s (masks .first) output ≡ false → {q : Reply} {n : ℕ} {m c o : List ℕ} {r : Turn}
+        → moving q n o ≡ moveOf (isClient (s .settings)) (s .reply) (s .held) (masks .first) output
+        → ((k : List ℕ) → read r m c k ≡ readOn (withHeld (withReply s q) n) piece end message control k)
         → read r m c o ≡ readCall s piece end masks message control output
     unfolding readCall firstOf
-    read-goes-on l {v} {m} {c} {o} moved on =
-        let all : readOn v piece end message control o ≡ readOn (moveReply s (masks .first) output .session) piece end message control (moveReply s (masks .first) output .output) =
-        ap (λ (x : Out). readOn (x .session) piece end message control (x .output)) moved in
+    read-goes-on l {q} {n} {m} {c} {o} moved on =
+        let all : readOn (withHeld (withReply s q) n) piece end message control o
+        ≡ readOn (moveReply s (masks .first) output .session) piece end message control (moveReply s (masks .first) output .output) =
+        ap (λ (x : Out). readOn (x .session) piece end message control (x .output)) (parts-move s (masks .first) output moved) in
         rw (last, l) (on o ∙ all)

@@ -2,6 +2,7 @@
 use session::Answer;
 use session::Incoming;
 use session::Masks;
+use session::Reply;
 use session::Session;
 use session::Settings;
 use session::Turn;
@@ -14,10 +15,27 @@ ghost use lib.Dec.{eqb, ltb, leb};
 ghost use lib.ListN.{length};
 ghost use Rattle.base.specs.Tests.{both, either, _when_, firstOf};
 ghost use Rattle.frame.specs.Header.{headerSize};
-ghost use Rattle.session.specs.Calls.{read, flagged, takeBytes, readOn, readCall};
-ghost use Rattle.session.specs.Range.{rangeOf, inRange};
-ghost use Rattle.session.specs.Replies.{concluded, isCloseReply};
+ghost use Rattle.reader.specs.Whole.{sessionOf, flagAnswer, flagState};
+ghost use Rattle.session.specs.Calls.{turn, read, takeBytes, readOn, readCall};
+ghost use Rattle.session.specs.Range.{rangeOf};
+ghost use Rattle.session.specs.Replies.{isCloseReply};
 ghost use Rattle.session.specs.Session.{isServer, isClient, isPeerClosed, isTerminated};
+
+// What the end flag leaves.
+struct Flagged {
+    answer: Answer,
+    state: u8,
+}
+
+// What a call gives once its reply has moved: the answer, the bytes taken, and the parts of the session that bytes can change.
+struct Gone {
+    answer: Answer,
+    taken: usize,
+    state: u8,
+    refusal: u8,
+    incoming: Incoming,
+    reply: Reply,
+}
 
 // Whether a store of one of these sizes is below its least size, or the output below the bytes held.
 fn is_short(least: usize, held: usize, message: usize, control: usize, output: usize) -> bool
@@ -92,67 +110,61 @@ fn is_peer_closed(state: u8) -> bool
     false
 }
 
-// The end flag, once the bytes are taken. Whatever the control store holds, it is not looked at.
-fn flag(end: bool, answer: Answer, taken: usize, session: Session) -> Turn
-    ensures { λ r. ⌜ ((control : List ℕ) → r ≡ flagged end (concluded answer session control) taken) ⌝ }
+// The end flag, once the bytes are taken: the answer, and the state.
+fn flag(end: bool, answer: Answer, state: u8) -> Flagged
+    ensures { λ r. ⌜ (r .answer ≡ flagAnswer end answer state) × (r .state ≡ flagState end answer state) ⌝ }
 {
     let more = message::pump::is_more(answer);
     if end {
         if more {
-            let mut over = session;
-            over.state = session::TERMINATED;
-            if is_peer_closed(session.state) {
-                return Turn {
+            if is_peer_closed(state) {
+                return Flagged {
                     answer: Answer::Closed,
-                    taken,
-                    session: over,
+                    state: session::TERMINATED,
                 };
             }
-            return Turn {
+            return Flagged {
                 answer: Answer::Refused(16),
-                taken,
-                session: over,
+                state: session::TERMINATED,
             };
         }
     }
-    Turn {
-        answer,
-        taken,
-        session,
-    }
+    Flagged { answer, state }
 }
 
 // Bytes are taken up to one event, the event leaves what it leaves, and then the flag is looked at. The output store is not touched.
 fn take_on(
-    session: Session,
+    settings: Settings,
+    state: u8,
+    refusal: u8,
+    incoming: Incoming,
+    reply: Reply,
     piece: &[u8],
     end: bool,
     message: &mut [u8],
     control: &mut [u8],
-) -> Turn
-    requires { ⌜ inRange session ≡ true ⌝ }
-    requires { ⌜ session .settings .message ≤ length (now message) ⌝ }
+) -> Gone
+    requires { ⌜ rangeOf settings state refusal incoming (reply .waiting) (reply .length) ≡ true ⌝ }
+    requires { ⌜ settings .message ≤ length (now message) ⌝ }
     requires { ⌜ 125 ≤ length (now control) ⌝ }
-    ensures { λ r. ⌜ ((output : List ℕ) → read r (now (message .exit)) (now (control .exit)) output ≡ takeBytes session (now (piece .entry)) end (now (message .entry)) (now (control .entry)) output) ⌝ }
+    ensures { λ r. ⌜ ((held : ℕ) (output : List ℕ) → read (turn (r .answer) (r .taken) (sessionOf settings (r .state) (r .refusal) (r .incoming) (r .reply) held)) (now (message .exit)) (now (control .exit)) output ≡ takeBytes (sessionOf settings state refusal incoming reply held) (now (piece .entry)) end (now (message .entry)) (now (control .entry)) output) ⌝ }
 {
-    let settings = session.settings;
-    let incoming = session.incoming;
-    let taken = message::pump::take_bytes(
-        settings,
-        session.state,
-        incoming,
-        piece,
-        message,
-        control,
-    );
+    let taken = message::pump::take_bytes(settings, state, incoming, piece, message, control);
     let answer = taken.answer;
-    let come = taken.incoming;
-    let mut next = session;
-    next.incoming = come;
-    let left = crate::conclude::conclude_with(answer, next, control);
+    let left = crate::conclude::conclude_with(answer, state, refusal, reply, control);
     let shown = left.answer;
-    let after = left.session;
-    flag(end, shown, taken.at, after)
+    let flagged = flag(end, shown, left.state);
+    let told = flagged.answer;
+    let come = taken.incoming;
+    let waits = left.reply;
+    Gone {
+        answer: told,
+        taken: taken.at,
+        state: flagged.state,
+        refusal: left.refusal,
+        incoming: come,
+        reply: waits,
+    }
 }
 
 // Whether a server's connection is at its end: its peer has closed.
@@ -167,28 +179,34 @@ fn is_over(settings: Settings, state: u8) -> bool
 
 // What a call does once its reply has moved: a server whose peer has closed is done, and else bytes are taken.
 fn read_on(
-    session: Session,
+    settings: Settings,
+    state: u8,
+    refusal: u8,
+    incoming: Incoming,
+    reply: Reply,
     piece: &[u8],
     end: bool,
     message: &mut [u8],
     control: &mut [u8],
-) -> Turn
-    requires { ⌜ inRange session ≡ true ⌝ }
-    requires { ⌜ session .settings .message ≤ length (now message) ⌝ }
+) -> Gone
+    requires { ⌜ rangeOf settings state refusal incoming (reply .waiting) (reply .length) ≡ true ⌝ }
+    requires { ⌜ settings .message ≤ length (now message) ⌝ }
     requires { ⌜ 125 ≤ length (now control) ⌝ }
-    ensures { λ r. ⌜ ((output : List ℕ) → read r (now (message .exit)) (now (control .exit)) output ≡ readOn session (now (piece .entry)) end (now (message .entry)) (now (control .entry)) output) ⌝ }
+    ensures { λ r. ⌜ ((held : ℕ) (output : List ℕ) → read (turn (r .answer) (r .taken) (sessionOf settings (r .state) (r .refusal) (r .incoming) (r .reply) held)) (now (message .exit)) (now (control .exit)) output ≡ readOn (sessionOf settings state refusal incoming reply held) (now (piece .entry)) end (now (message .entry)) (now (control .entry)) output) ⌝ }
 {
-    let settings = session.settings;
-    if is_over(settings, session.state) {
-        let mut done = session;
-        done.state = session::TERMINATED;
-        return Turn {
+    if is_over(settings, state) {
+        return Gone {
             answer: Answer::Closed,
             taken: 0,
-            session: done,
+            state: session::TERMINATED,
+            refusal,
+            incoming,
+            reply,
         };
     }
-    take_on(session, piece, end, message, control)
+    take_on(
+        settings, state, refusal, incoming, reply, piece, end, message, control,
+    )
 }
 
 // Reads a piece up to one event.
@@ -234,6 +252,32 @@ pub fn read(
         };
     }
     let first = masks.first;
-    let moved = writer::reply::move_reply(session, first, output);
-    read_on(moved, piece, end, message, control)
+    let client = settings.role == session::CLIENT;
+    let moved = writer::reply::move_reply(client, reply, session.held, first, output);
+    let waits = moved.reply;
+    let gone = read_on(
+        settings,
+        session.state,
+        session.refusal,
+        incoming,
+        waits,
+        piece,
+        end,
+        message,
+        control,
+    );
+    let answer = gone.answer;
+    let come = gone.incoming;
+    let left = gone.reply;
+    let mut next = session;
+    next.state = gone.state;
+    next.refusal = gone.refusal;
+    next.incoming = come;
+    next.reply = left;
+    next.held = moved.held;
+    Turn {
+        answer,
+        taken: gone.taken,
+        session: next,
+    }
 }

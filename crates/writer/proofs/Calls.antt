@@ -22,15 +22,19 @@ use Rattle.session.specs.declared.Sent.the-variants.{Done, Refused as NotSent}
 use Rattle.session.specs.declared.Session.{Session}
 use Rattle.session.specs.Calls.{outputShort, sending, sendTests, sendFrame, closeCall, pongCall, heldNumber, heldPart, takeTests, takeCall}
 use Rattle.session.specs.Range.{inRange}
-use Rattle.session.specs.Replies.{encoded, fits, withPong, Out, out, appended, moveReply}
+use Rattle.session.specs.Replies.{encoded, fits, withPong, Out, appended, moveReply}
 use Rattle.session.specs.Session.{isClient, withState, withReply, withHeld}
 use Rattle.session.proofs.Choices.{either-all}
 use Rattle.utf8.specs.Progress.{progressAfter, isWhole}
+use Rattle.writer.specs.Moves.{moving, moveOf}
+use Rattle.writer.proofs.Moving.{parts-move}
 use Rattle.writer.proofs.Numbers.{long-parts}
 
 -- what a reply that moved, or not, leaves
-handed-over : {r : Session} {o : List ℕ} {v : Out} → out r o ≡ v → sending Done r o ≡ sending Done (v .session) (v .output)
-handed-over m = ap (λ (v : Out). sending Done (v .session) (v .output)) m
+handed-over : (s : Session) (mask output : List ℕ) {q : Reply} {n : ℕ} {o : List ℕ}
+    → moving q n o ≡ moveOf (isClient (s .settings)) (s .reply) (s .held) mask output
+    → sending Done (withHeld (withReply s q) n) o ≡ sending Done (moveReply s mask output .session) (moveReply s mask output .output)
+handed-over s mask output m = ap (λ (v : Out). sending Done (v .session) (v .output)) (parts-move s mask output m)
 
 -- ---- a frame
 module _ (s : Session) (state : ℕ) (op : OpCode) (bad : Bool) (p : List ℕ) (masks : Masks) (output : List ℕ) where
@@ -45,13 +49,13 @@ module _ (s : Session) (state : ℕ) (op : OpCode) (bad : Bool) (p : List ℕ) (
     send-no-room f = rw (early, f)
 
     pub send-done : fits (s .held) output (encoded (isClient (s .settings)) op (masks .first) p) ≡ true
-        → {behind : ℕ} {o o′ : List ℕ} {r : Session}
+        → {behind n : ℕ} {o o′ : List ℕ} {q : Reply}
         → behind ≡ s .held + length (encoded (isClient (s .settings)) op (masks .first) p)
         → o ≡ laid output (s .held) (encoded (isClient (s .settings)) op (masks .first) p)
-        → out r o′ ≡ moveReply (withHeld (withState s state) behind) (masks .second) o
-        → sending Done r o′ ≡ sendFrame s state op bad p masks output
+        → moving q n o′ ≡ moveOf (isClient (s .settings)) (s .reply) behind (masks .second) o
+        → sending Done (withHeld (withReply (withState s state) q) n) o′ ≡ sendFrame s state op bad p masks output
     unfolding sendFrame firstOf appended
-    send-done f u v m = rw (early, f, ← u, ← v) (handed-over m)
+    send-done f {behind} {n} {o} u v m = rw (early, f, ← u, ← v) (handed-over (withHeld (withState s state) behind) (masks .second) o m)
 
 -- ---- a pong
 module _ (s : Session) (p : List ℕ) (masks : Masks) (output : List ℕ) where
@@ -60,11 +64,11 @@ module _ (s : Session) (p : List ℕ) (masks : Masks) (output : List ℕ) where
   pong-owed {n} q h = rw (← q, ne-eqb n 0 h)
 
   pub pong-done : firstOf (sendTests s output (ltb 125 (length p))) ≡ 0
-      → {q : Reply} {o : List ℕ} {r : Session} → q ≡ withPong (s .reply) p
-      → out r o ≡ moveReply (withReply s q) (masks .first) output
-      → sending Done r o ≡ pongCall s p masks output
+      → {asked q : Reply} {n : ℕ} {o : List ℕ} → asked ≡ withPong (s .reply) p
+      → moving q n o ≡ moveOf (isClient (s .settings)) asked (s .held) (masks .first) output
+      → sending Done (withHeld (withReply s q) n) o ≡ pongCall s p masks output
   unfolding pongCall
-  pong-done e u m = rw (e, ← u) (handed-over m)
+  pong-done e {asked} u m = rw (e, ← u) (handed-over (withReply s asked) (masks .first) output m)
 
 -- a reason may have two bytes less than a payload, since its code goes before it
 past-two : (n : ℕ) → ltb 125 (suc (suc n)) ≡ ltb 123 n

@@ -1,5 +1,5 @@
--- Laws of a waiting reply that moves to the output: its three cases, and what it leaves alone.
-use mathlib.Core.Path.{_≡_, refl, sym, _∙_}
+-- Laws of a waiting reply that moves to the output: its three cases, and that a session's reply moves as its parts do.
+use mathlib.Core.Path.{_≡_, refl, sym, ap, _∙_}
 use mathlib.Core.Bool.{Bool, true, false}
 use mathlib.Core.List.{List}
 use Prim.Native.Nat.{ℕ, _+_, _-_, _≤_}
@@ -9,7 +9,7 @@ use lib.Seq.{length-take-le}
 use Rattle.base.specs.Stores.{laid}
 use Rattle.base.specs.Table.{pick}
 use Rattle.base.specs.Tests.{both}
-use Rattle.base.proofs.Stores.{length-laid}
+use Rattle.base.proofs.Choice.{by-test}
 use Rattle.coding.specs.declared.opcode.OpCode.{OpCode}
 use Rattle.frame.specs.Header.{headerSize}
 use Rattle.session.specs.declared.Reply.{Reply}
@@ -18,80 +18,51 @@ use Rattle.session.specs.declared.Waiting.the-variants.{Pong}
 use Rattle.session.specs.Range.{waits}
 use Rattle.session.specs.Replies.{encoded, fits, replyOf, isCloseReply, withPong, replyCode, noReply, replyFrame, Out, out, appended, moveReply}
 use Rattle.session.specs.Session.{isClient, withReply, withHeld}
-use Rattle.writer.proofs.Encoding.{fits-within, fits-by}
+use Rattle.writer.specs.Moves.{replyBytes, Moving, moving, moveOf}
+use Rattle.writer.proofs.Encoding.{fits-by}
 
-module _ (s : Session) (mask output : List ℕ) where
+module _ (client : Bool) (q : Reply) (held : ℕ) (mask output : List ℕ) where
   -- ---- its three cases
-  pub waits-not : waits (s .reply .waiting) ≡ false → moveReply s mask output ≡ out s output
-  unfolding moveReply
+  pub waits-not : waits (q .waiting) ≡ false → moving q held output ≡ moveOf client q held mask output
+  unfolding moveOf
   waits-not w = rw w
 
-  pub waits-and-fits : waits (s .reply .waiting) ≡ true → fits (s .held) output (replyFrame s mask) ≡ true
-      → moveReply s mask output ≡ appended (withReply s (noReply (s .reply))) output (replyFrame s mask)
-  unfolding moveReply
-  waits-and-fits w f = rw (w, f)
-
-  pub waits-on : waits (s .reply .waiting) ≡ true → fits (s .held) output (replyFrame s mask) ≡ false → moveReply s mask output ≡ out s output
-  unfolding moveReply
+  pub waits-on : waits (q .waiting) ≡ true → fits held output (replyBytes client q mask) ≡ false
+      → moving q held output ≡ moveOf client q held mask output
+  unfolding moveOf
   waits-on w f = rw (w, f)
 
-  pub reply-fits-by : length mask ≡ 4 → s .reply .length ≤ length (s .reply .payload)
-      → fits (s .held) output (replyFrame s mask) ≡ leb (headerSize (isClient (s .settings)) (s .reply .length) + s .reply .length) (length output - s .held)
-  unfolding replyFrame
-  reply-fits-by four h =
-      fits-by (s .held) output (isClient (s .settings)) (replyCode (s .reply .waiting)) mask (take (s .reply .length) (s .reply .payload)) four
-      ∙ rw (length-take-le (s .reply .length) (s .reply .payload) h)
-
   -- what the code makes where it moves: no reply, a place behind the frame, and the frame laid over the output
-  pub reply-moves : {op : OpCode} {none : Reply} {behind : ℕ} {o : List ℕ} → waits (s .reply .waiting) ≡ true
-      → fits (s .held) output (replyFrame s mask) ≡ true → op ≡ replyCode (s .reply .waiting) → none ≡ noReply (s .reply)
-      → behind ≡ s .held + length (encoded (isClient (s .settings)) op mask (take (s .reply .length) (s .reply .payload)))
-      → o ≡ laid output (s .held) (encoded (isClient (s .settings)) op mask (take (s .reply .length) (s .reply .payload)))
-      → out (withHeld (withReply s none) behind) o ≡ moveReply s mask output
-  unfolding appended replyFrame
-  reply-moves {op} {none} {behind} {o} w f p q u v =
-      let b : behind ≡ s .held + length (replyFrame s mask) = rw (← p) u in
-      let l : o ≡ laid output (s .held) (replyFrame s mask) = rw (← p) v in
-      (λ i. out (withHeld (withReply s (q i)) (b i)) (l i)) ∙ sym (waits-and-fits w f)
+  pub reply-moves : {op : OpCode} {none : Reply} {behind : ℕ} {o : List ℕ} → waits (q .waiting) ≡ true
+      → fits held output (replyBytes client q mask) ≡ true → op ≡ replyCode (q .waiting) → none ≡ noReply q
+      → behind ≡ held + length (encoded client op mask (take (q .length) (q .payload)))
+      → o ≡ laid output held (encoded client op mask (take (q .length) (q .payload)))
+      → moving none behind o ≡ moveOf client q held mask output
+  unfolding moveOf replyBytes
+  reply-moves {op} {none} {behind} {o} w f p z u v =
+      let b : behind ≡ held + length (replyBytes client q mask) = rw (← p) u in
+      let l : o ≡ laid output held (replyBytes client q mask) = rw (← p) v in
+      rw (w, f) (λ i. moving (z i) (b i) (l i))
 
-  -- ---- what holds whether it moves or not
-  moved-by : (P : Out → Type 0) → P (out s output)
-      → (fits (s .held) output (replyFrame s mask) ≡ true → P (appended (withReply s (noReply (s .reply))) output (replyFrame s mask)))
-      → P (moveReply s mask output)
-  unfolding moveReply
-  moved-by P stays goes = go (waits (s .reply .waiting)) (fits (s .held) output (replyFrame s mask)) refl
-    where
-      go : (w f : Bool) → fits (s .held) output (replyFrame s mask) ≡ f
-          → P (pick (both w f) (appended (withReply s (noReply (s .reply))) output (replyFrame s mask)) (out s output))
-      go false f e = stays
-      go true true e = goes e
-      go true false e = stays
+  pub reply-fits-by : length mask ≡ 4 → q .length ≤ length (q .payload)
+      → fits held output (replyBytes client q mask) ≡ leb (headerSize client (q .length) + q .length) (length output - held)
+  unfolding replyBytes
+  reply-fits-by four h =
+      fits-by held output client (replyCode (q .waiting)) mask (take (q .length) (q .payload)) four
+      ∙ rw (length-take-le (q .length) (q .payload) h)
 
-  pub moved-settings : moveReply s mask output .session .settings ≡ s .settings
-  unfolding appended
-  moved-settings = moved-by (λ (v : Out). v .session .settings ≡ s .settings) refl (λ f. refl)
+-- ---- a session's reply moves as its parts do
+pub reply-frame : (s : Session) (mask : List ℕ) → replyFrame s mask ≡ replyBytes (isClient (s .settings)) (s .reply) mask
+unfolding replyFrame replyBytes
+reply-frame s mask = refl
 
-  pub moved-state : moveReply s mask output .session .state ≡ s .state
-  unfolding appended
-  moved-state = moved-by (λ (v : Out). v .session .state ≡ s .state) refl (λ f. refl)
-
-  pub moved-refusal : moveReply s mask output .session .refusal ≡ s .refusal
-  unfolding appended
-  moved-refusal = moved-by (λ (v : Out). v .session .refusal ≡ s .refusal) refl (λ f. refl)
-
-  pub moved-incoming : moveReply s mask output .session .incoming ≡ s .incoming
-  unfolding appended
-  moved-incoming = moved-by (λ (v : Out). v .session .incoming ≡ s .incoming) refl (λ f. refl)
-
-  pub moved-length : length (moveReply s mask output .output) ≡ length output
-  unfolding appended
-  moved-length = moved-by (λ (v : Out). length (v .output) ≡ length output) refl (λ f. length-laid output (s .held) (replyFrame s mask))
-
-  pub moved-held : s .held ≤ length output → moveReply s mask output .session .held ≤ length (moveReply s mask output .output)
-  unfolding appended
-  moved-held h =
-      moved-by (λ (v : Out). v .session .held ≤ length (v .output)) h
-      (λ f. rw length-laid (fits-within (s .held) output (replyFrame s mask) f h))
+pub parts-move : (s : Session) (mask output : List ℕ) {q : Reply} {held : ℕ} {o : List ℕ}
+    → moving q held o ≡ moveOf (isClient (s .settings)) (s .reply) (s .held) mask output
+    → out (withHeld (withReply s q) held) o ≡ moveReply s mask output
+unfolding moveOf moveReply appended replyFrame replyBytes
+parts-move s mask output m =
+    ap (λ (v : Moving). out (withHeld (withReply s (v .reply)) (v .held)) (v .output)) m
+    ∙ by-test (both (waits (s .reply .waiting)) (fits (s .held) output (replyFrame s mask))) (λ t. rw t) (λ t. rw t)
 
 -- ---- a pong in the place of what waited: it is no longer than its payload, or what waited stays
 pub pong-short : (q : Reply) (p : List ℕ) → length p ≤ 125 → (waits (q .waiting) ≡ true → q .length ≤ 125)

@@ -3,7 +3,7 @@ use mathlib.Core.Path.{sym, ap, _∙_}
 use denote.Ref.{now, ptr}
 use Rattle.base.proofs.Promise.{OneAnswer, OneStore, OnePart}
 use Rattle.session.specs.Calls.{Sending}
-use Rattle.session.specs.Replies.{Out}
+use Rattle.writer.specs.Moves.{Moving}
 use Rattle.writer.proofs.output.held.Kinds as held
 use Rattle.writer.proofs.output.held.Reads as held-reads
 use Rattle.writer.proofs.output.held_number.Kinds as held-number
@@ -99,8 +99,9 @@ reply-fits-one κs a z z′ e e′ p q = p ∙ sym q
 pub is-waiting-one : OneAnswer 0 is-waiting.ps is-waiting.r is-waiting-reads.Post
 is-waiting-one κs a z z′ e e′ p q = p ∙ sym q
 
+-- the two parts that it gives, and the output store
 pub move-reply-one : OneAnswer 1 move-reply.ps move-reply.r move-reply-reads.Post
-move-reply-one κs a z z′ e e′ p q = ap (λ (x : Out). x .session) (p ∙ sym q)
+move-reply-one κs a z z′ e e′ p q = ap (λ (x : Moving). record { reply = x .reply; held = x .held }) (p ∙ sym q)
 
-pub move-reply-one-store : OneStore 1 move-reply.ps move-reply.r (λ κs e. now (e .1 .1 .0)) move-reply-reads.Post
-move-reply-one-store κs a z z′ e e′ p q = ap (λ (x : Out). x .output) (p ∙ sym q)
+pub move-reply-one-store : OneStore 1 move-reply.ps move-reply.r (λ κs e. now (e .1 .1 .1 .1 .0)) move-reply-reads.Post
+move-reply-one-store κs a z z′ e e′ p q = ap (λ (x : Moving). x .output) (p ∙ sym q)

@@ -1,7 +1,10 @@
 // The held bytes: shown, and handed over.
 use session::Handed;
+use session::Incoming;
 use session::Sent;
 use session::Session;
+use session::Settings;
+use session::Waiting;
 ghost use mathlib.Core.Path.{_≡_};
 ghost use mathlib.Core.Bool.{not};
 ghost use mathlib.Core.List.{_∷_, []};
@@ -9,7 +12,7 @@ ghost use denote.Ref.{ptr};
 ghost use lib.Dec.{ltb};
 ghost use Rattle.base.specs.Tests.{either, _when_, firstOf};
 ghost use Rattle.session.specs.Calls.{sending, takeCall, heldNumber, heldPart, waitsCall};
-ghost use Rattle.session.specs.Range.{inRange};
+ghost use Rattle.session.specs.Range.{rangeOf};
 
 // Whether a reply waits.
 pub fn waits(session: Session) -> bool
@@ -20,23 +23,21 @@ pub fn waits(session: Session) -> bool
     crate::reply::is_waiting(waiting)
 }
 
-// The number that a session and an output store of this size owe, 20 before 1, or 0.
-pub(crate) fn owed(session: Session, size: usize) -> u8
-    ensures { λ r. ⌜ r ≡ firstOf ((20 when not (inRange session)) ∷ (1 when either (ltb size 131) (ltb size (session .held))) ∷ []) ⌝ }
+// The number that a session and an output store of this size owe, 20 before 1, or 0. It takes the session's parts, since no byte is
+// looked at.
+pub(crate) fn owed(
+    settings: Settings,
+    state: u8,
+    refusal: u8,
+    incoming: Incoming,
+    waiting: Waiting,
+    count: usize,
+    held: usize,
+    size: usize,
+) -> u8
+    ensures { λ r. ⌜ r ≡ firstOf ((20 when not (rangeOf settings state refusal incoming waiting count)) ∷ (1 when either (ltb size 131) (ltb size held)) ∷ []) ⌝ }
 {
-    let settings = session.settings;
-    let incoming = session.incoming;
-    let reply = session.reply;
-    let waiting = reply.waiting;
-    let held = session.held;
-    if !session::range::in_range(
-        settings,
-        session.state,
-        session.refusal,
-        incoming,
-        waiting,
-        reply.length,
-    ) {
+    if !session::range::in_range(settings, state, refusal, incoming, waiting, count) {
         return 20;
     }
     if size < 131 {
@@ -52,7 +53,20 @@ pub(crate) fn owed(session: Session, size: usize) -> u8
 pub fn held_number(session: Session, output: &[u8]) -> u8
     ensures { λ r. ⌜ r ≡ heldNumber session (now (output .entry)) ⌝ }
 {
-    owed(session, output.len())
+    let settings = session.settings;
+    let incoming = session.incoming;
+    let reply = session.reply;
+    let waiting = reply.waiting;
+    owed(
+        settings,
+        session.state,
+        session.refusal,
+        incoming,
+        waiting,
+        reply.length,
+        session.held,
+        output.len(),
+    )
 }
 
 // The held bytes, as a part of the output store; none where a number is owed.
@@ -77,7 +91,7 @@ pub fn take(session: Session, n: usize, output: &mut [u8]) -> Handed
             session,
         };
     }
-    let number = owed(session, output.len());
+    let number = held_number(session, output);
     if number != 0 {
         return Handed {
             sent: Sent::Refused(number),

@@ -2,7 +2,6 @@
 use coding::opcode::Control;
 use coding::opcode::OpCode;
 use session::Reply;
-use session::Session;
 use session::Waiting;
 ghost use mathlib.Core.Path.{_≡_};
 ghost use mathlib.Core.Bool.{true};
@@ -11,7 +10,8 @@ ghost use lib.Dec.{leb};
 ghost use lib.ListN.{length};
 ghost use Rattle.frame.specs.Header.{headerSize};
 ghost use Rattle.session.specs.Range.{waits};
-ghost use Rattle.session.specs.Replies.{replyOf, withPong, noReply, replyCode, isCloseReply, out, moveReply};
+ghost use Rattle.session.specs.Replies.{replyOf, withPong, noReply, replyCode, isCloseReply};
+ghost use Rattle.writer.specs.Moves.{moving, moveOf};
 
 // A reply with this payload in the place of what waited.
 pub fn make_reply(reply: Reply, waiting: Waiting, payload: &[u8]) -> Reply
@@ -88,18 +88,26 @@ pub fn is_waiting(waiting: Waiting) -> bool
     }
 }
 
+// What a move leaves: the waiting reply, and the bytes held.
+pub struct Moved {
+    pub reply: Reply,
+    pub held: usize,
+}
+
 // The waiting reply moves behind the held bytes if it fits, and else waits on.
-pub fn move_reply(session: Session, mask: [u8; 4], output: &mut [u8]) -> Session
-    requires { ⌜ (waits (session .reply .waiting) ≡ true → session .reply .length ≤ 125) ⌝ }
-    requires { ⌜ session .held ≤ length (now output) ⌝ }
-    ensures { λ r. ⌜ out r (now (output .exit)) ≡ moveReply session mask (now (output .entry)) ⌝ }
+pub fn move_reply(
+    client: bool,
+    reply: Reply,
+    held: usize,
+    mask: [u8; 4],
+    output: &mut [u8],
+) -> Moved
+    requires { ⌜ (waits (reply .waiting) ≡ true → reply .length ≤ 125) ⌝ }
+    requires { ⌜ held ≤ length (now output) ⌝ }
+    ensures { λ r. ⌜ moving (r .reply) (r .held) (now (output .exit)) ≡ moveOf client reply held mask (now (output .entry)) ⌝ }
 {
-    let reply = session.reply;
     let waiting = reply.waiting;
     if is_waiting(waiting) {
-        let settings = session.settings;
-        let client = settings.role == session::CLIENT;
-        let held = session.held;
         let length = reply.length;
         if reply_fits(client, length, held, output.len()) {
             let payload = reply.payload;
@@ -113,12 +121,11 @@ pub fn move_reply(session: Session, mask: [u8; 4], output: &mut [u8]) -> Session
                 output,
                 held,
             );
-            let mut moved = session;
-            let none = no_reply(reply);
-            moved.reply = none;
-            moved.held = behind;
-            return moved;
+            return Moved {
+                reply: no_reply(reply),
+                held: behind,
+            };
         }
     }
-    session
+    Moved { reply, held }
 }

@@ -4,9 +4,12 @@ use coding::opcode::Data;
 use coding::opcode::OpCode;
 use session::Closing;
 use session::Handed;
+use session::Incoming;
 use session::Masks;
 use session::Sent;
 use session::Session;
+use session::Settings;
+use session::Waiting;
 ghost use mathlib.Core.Path.{_≡_};
 ghost use mathlib.Core.Bool.{not};
 ghost use mathlib.Core.List.{_++_, _∷_, []};
@@ -15,19 +18,38 @@ ghost use lib.Dec.{ltb};
 ghost use lib.ListN.{length, take};
 ghost use Rattle.base.specs.Tests.{either, _when_, firstOf};
 ghost use Rattle.session.specs.Calls.{sending, sendFrame, textCall, binaryCall, pingCall, pongCall, closeCall};
-ghost use Rattle.session.specs.Range.{inRange};
+ghost use Rattle.session.specs.Range.{rangeOf};
 ghost use Rattle.session.specs.Session.{isActive, isTerminated};
 ghost use Rattle.utf8.specs.Progress.{progressAfter, isWhole};
 
-// The number of a sending call before its frame is measured: 20, 1, 2, 17, 18, in that order, or 0.
-fn send_number(session: Session, size: usize, bad: bool) -> u8
-    ensures { λ r. ⌜ r ≡ firstOf ((20 when not (inRange session)) ∷ (1 when either (ltb size 131) (ltb size (session .held))) ∷ (2 when isTerminated (session .state)) ∷ (17 when not (isActive (session .state))) ∷ (18 when bad) ∷ []) ⌝ }
+// The number of a sending call before its frame is measured: 20, 1, 2, 17, 18, in that order, or 0. It takes the session's parts, since
+// no byte is looked at.
+fn send_number(
+    settings: Settings,
+    state: u8,
+    refusal: u8,
+    incoming: Incoming,
+    waiting: Waiting,
+    count: usize,
+    held: usize,
+    size: usize,
+    bad: bool,
+) -> u8
+    ensures { λ r. ⌜ r ≡ firstOf ((20 when not (rangeOf settings state refusal incoming waiting count)) ∷ (1 when either (ltb size 131) (ltb size held)) ∷ (2 when isTerminated state) ∷ (17 when not (isActive state)) ∷ (18 when bad) ∷ []) ⌝ }
 {
-    let number = crate::output::owed(session, size);
+    let number = crate::output::owed(
+        settings,
+        state,
+        refusal,
+        incoming,
+        waiting,
+        count,
+        held,
+        size,
+    );
     if number != 0 {
         return number;
     }
-    let state = session.state;
     if state == session::TERMINATED {
         return 2;
     }
@@ -56,16 +78,29 @@ fn send(
     requires { ⌜ count ≤ 2 ⌝ }
     ensures { λ r. ⌜ sending (r .sent) (r .session) (now (output .exit)) ≡ sendFrame session state opcode bad (take count lead ++ now (piece .entry)) masks (now (output .entry)) ⌝ }
 {
-    let number = send_number(session, output.len(), bad);
+    let settings = session.settings;
+    let incoming = session.incoming;
+    let reply = session.reply;
+    let waiting = reply.waiting;
+    let held = session.held;
+    let number = send_number(
+        settings,
+        session.state,
+        session.refusal,
+        incoming,
+        waiting,
+        reply.length,
+        held,
+        output.len(),
+        bad,
+    );
     if number != 0 {
         return Handed {
             sent: Sent::Refused(number),
             session,
         };
     }
-    let settings = session.settings;
     let client = settings.role == session::CLIENT;
-    let held = session.held;
     if !crate::frames::fits_in(client, count, piece.len(), output.len() - held) {
         return Handed {
             sent: Sent::Refused(19),
@@ -74,14 +109,16 @@ fn send(
     }
     let first = masks.first;
     let behind = crate::frames::put_frame(client, opcode, first, lead, count, piece, output, held);
-    let mut sent = session;
-    sent.state = state;
-    sent.held = behind;
     let second = masks.second;
-    let moved = crate::reply::move_reply(sent, second, output);
+    let moved = crate::reply::move_reply(client, reply, behind, second, output);
+    let left = moved.reply;
+    let mut next = session;
+    next.state = state;
+    next.reply = left;
+    next.held = moved.held;
     Handed {
         sent: Sent::Done,
-        session: moved,
+        session: next,
     }
 }
 
@@ -203,21 +240,38 @@ pub fn pong(session: Session, payload: &[u8], masks: Masks, output: &mut [u8]) -
     ensures { λ r. ⌜ sending (r .sent) (r .session) (now (output .exit)) ≡ pongCall session (now (payload .entry)) masks (now (output .entry)) ⌝ }
 {
     let long = 125 < payload.len();
-    let number = send_number(session, output.len(), long);
+    let settings = session.settings;
+    let incoming = session.incoming;
+    let reply = session.reply;
+    let waiting = reply.waiting;
+    let held = session.held;
+    let number = send_number(
+        settings,
+        session.state,
+        session.refusal,
+        incoming,
+        waiting,
+        reply.length,
+        held,
+        output.len(),
+        long,
+    );
     if number != 0 {
         return Handed {
             sent: Sent::Refused(number),
             session,
         };
     }
-    let reply = session.reply;
-    let mut asked = session;
-    let next = crate::reply::with_pong(reply, payload);
-    asked.reply = next;
+    let client = settings.role == session::CLIENT;
+    let asked = crate::reply::with_pong(reply, payload);
     let mask = masks.first;
-    let moved = crate::reply::move_reply(asked, mask, output);
+    let moved = crate::reply::move_reply(client, asked, held, mask, output);
+    let left = moved.reply;
+    let mut next = session;
+    next.reply = left;
+    next.held = moved.held;
     Handed {
         sent: Sent::Done,
-        session: moved,
+        session: next,
     }
 }

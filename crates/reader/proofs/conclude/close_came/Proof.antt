@@ -1,81 +1,52 @@
--- `reader::conclude::close_came` meets its contract: echoed or replaced in Active, acknowledged in ClosedByUs, else shown.
-use mathlib.Core.Path.{sym, _∙_}
-use Prim.Native.Nat.{_≤_}
-use lib.ListN.{length}
-use lib.Seq.{length-take-le}
-use native.Mathlib.Omega.{arith}
 use borrow.Author.Needs.{needs}
-use Rattle.reader.proofs.Replying.{close-echoed, close-replaced, close-acknowledged, close-shown}
 use Rattle.reader.proofs.conclude.close_came.Statement.{statement}
 use Rattle.reader.proofs.conclude.close_came.Tie as tie
+use Rattle.reader.proofs.conclude.close_came.Reads as reads
+use Rattle.reader.proofs.conclude.close_came.Lts as lts
+use Rattle.reader.proofs.conclude.show_close.Reads as show-close-reads
+use Rattle.writer.proofs.reply.make_reply.Reads as make-reply-reads
 
-within : (c : tie.Start) → c .args .n ≤ length (c .args .control .now)
-within c = omega (arith, c .pre)
+-- src/conclude.rt:73:13
+show-close-requires : tie.Need-show-close-requires
+show-close-requires c κs = search needs
 
-slice-reshare-prefix-is-allowed : tie.Need-slice-reshare-prefix-is-allowed
-slice-reshare-prefix-is-allowed c = search needs
+-- src/conclude.rt:78:69
+slice-reshare-prefix-make-reply : tie.Need-slice-reshare-prefix-make-reply
+slice-reshare-prefix-make-reply c = ?
 
-slice-aggregate-is-allowed : tie.Need-slice-aggregate-is-allowed
-slice-aggregate-is-allowed c = sym (length-take-le _ _ (within (c .before .before .before .before)))
+-- src/conclude.rt:78:69
+slice-aggregate-make-reply : tie.Need-slice-aggregate-make-reply
+slice-aggregate-make-reply c = ?
 
-is-allowed-requires : tie.Need-is-allowed-requires
-is-allowed-requires c κs = search needs
+-- src/conclude.rt:78:20
+make-reply-requires : tie.Need-make-reply-requires
+make-reply-requires c κs = ?
 
-answer-close-requires : tie.Need-answer-close-requires
-answer-close-requires c κs = search needs
-
+-- src/conclude.rt:74:9
 same-length : tie.Need-same-length
 same-length c = search needs
 
+-- src/conclude.rt:74:9
 returns : tie.Need-returns
-returns c =
-    let allowed = c .before .before in
-    let active = allowed .before .before .before in
-    let a = active .before .before .before .args in
-    close-echoed (a .session) (a .control .now) (a .n) (active .if1 .taken) (sym (allowed .before .is-allowed .ensures) ∙ allowed .if2 .taken)
-    (c .answer-close .ensures .0) (c .answer-close .ensures .1)
+returns c = ?
 
-write-violation-requires : tie.Need-write-violation-requires
-write-violation-requires c κs = search needs
-
-answer-close-requires-2 : tie.Need-answer-close-requires-2
-answer-close-requires-2 c κs = search needs
-
-same-length-2 : tie.Need-same-length-2
-same-length-2 c = search needs
-
+-- src/conclude.rt:82:9
 returns-2 : tie.Need-returns-2
-returns-2 c =
-    let written = c .before .before .before .before in
-    let refused = written .before .before in
-    let active = refused .before .before .before in
-    let a = active .before .before .before .args in
-    close-replaced (a .session) (a .control .now) (a .n) (active .if1 .taken) (sym (refused .before .is-allowed .ensures) ∙ refused .if2 .left)
-    (written .write-violation .ensures) (c .answer-close2 .ensures .0) (c .answer-close2 .ensures .1)
+returns-2 c = ?
 
+-- src/conclude.rt:68:1
 returns-3 : tie.Need-returns-3
-returns-3 c =
-    let a = c .before .before .before .before .before .args in
-    close-acknowledged (a .session) (a .control .now) (a .n) (c .if3 .taken)
-
-returns-4 : tie.Need-returns-4
-returns-4 c =
-    let a = c .before .before .before .before .before .args in
-    close-shown (a .session) (a .control .now) (a .n) (c .before .before .if1 .left) (c .if3 .left)
+returns-3 c = ?
 
 pub close-came-spec : {M : Type 1} → statement M
 close-came-spec =
     tie.close
     (tie.spec
-    slice-reshare-prefix-is-allowed
-    slice-aggregate-is-allowed
-    is-allowed-requires
-    answer-close-requires
+    show-close-requires
+    slice-reshare-prefix-make-reply
+    slice-aggregate-make-reply
+    make-reply-requires
     same-length
     returns
-    write-violation-requires
-    answer-close-requires-2
-    same-length-2
     returns-2
-    returns-3
-    returns-4)
+    returns-3)

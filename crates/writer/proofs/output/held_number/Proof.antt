@@ -1,6 +1,7 @@
 -- `writer::output::held_number` meets its contract.
 use borrow.Author.Needs.{needs}
 use Rattle.session.specs.Calls.{outputShort, heldNumber}
+use Rattle.session.specs.Range.{inRange}
 use Rattle.writer.proofs.output.held_number.Statement.{statement}
 use Rattle.writer.proofs.output.held_number.Tie as tie
 
@@ -8,7 +9,7 @@ owed-requires : tie.Need-owed-requires
 owed-requires c κs = search needs
 
 returns : tie.Need-returns
-unfolding heldNumber outputShort
+unfolding heldNumber outputShort inRange
 returns c = c .owed .ensures
 
 pub held-number-spec : {M : Type 1} → statement M

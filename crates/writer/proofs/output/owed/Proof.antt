@@ -3,20 +3,20 @@ use mathlib.Core.Path.{_≡_, sym, ap, _∙_}
 use mathlib.Core.Bool.{false, not}
 use borrow.Author.Needs.{needs}
 use Rattle.base.proofs.Tests.{met, passed, none-met}
-use Rattle.session.specs.Range.{inRange}
+use Rattle.session.specs.Range.{rangeOf}
 use Rattle.writer.proofs.Numbers.{short-small, short-held, long}
 use Rattle.writer.proofs.output.owed.Statement.{statement}
 use Rattle.writer.proofs.output.owed.Tie as tie
 
-inside : (c : tie.Else1) → not (inRange (c .before .before .before .before .before .args .session)) ≡ false
-unfolding inRange
+inside : (c : tie.Else1)
+    → let a = c .before .before .args in
+    not (rangeOf (a .settings) (a .state) (a .refusal) (a .incoming) (a .waiting) (a .count)) ≡ false
 inside c = ap not (sym (c .before .in-range .ensures)) ∙ c .if1 .left
 
 in-range-requires : tie.Need-in-range-requires
 in-range-requires c κs = search needs
 
 returns : tie.Need-returns
-unfolding inRange
 returns c = met 20 _ (ap not (sym (c .before .in-range .ensures)) ∙ c .if1 .taken)
 
 returns-2 : tie.Need-returns-2

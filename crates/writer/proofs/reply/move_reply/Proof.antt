@@ -10,8 +10,8 @@ use lib.ListN.{length}
 use lib.Seq.{length-take-le}
 use Rattle.frame.specs.Header.{headerSize}
 use Rattle.session.specs.Range.{waits}
-use Rattle.session.specs.Replies.{fits, replyFrame}
-use Rattle.session.specs.Session.{isClient}
+use Rattle.session.specs.Replies.{fits}
+use Rattle.writer.specs.Moves.{replyBytes}
 use Rattle.writer.proofs.Moving.{waits-not, waits-on, reply-fits-by, reply-moves}
 use Rattle.writer.proofs.reply.move_reply.Statement.{statement}
 use Rattle.writer.proofs.reply.move_reply.Tie as tie
@@ -19,21 +19,23 @@ use Rattle.writer.proofs.reply.move_reply.Tie as tie
 -- where a reply waits and its frame is measured
 module _ (c : tie.After-reply-fits) where
   abbrev start : tie.Start
-  start = c .before .before .before .before .before .before .before
+  start = c .before .before .before .before
 
   four : length (start .args .mask) ≡ 4
   four = search needs
 
-  waiting : waits (start .args .session .reply .waiting) ≡ true
-  waiting = sym (c .before .before .before .before .is-waiting .ensures) ∙ c .before .before .before .if1 .taken
+  waiting : waits (start .args .reply .waiting) ≡ true
+  waiting = sym (c .before .before .is-waiting .ensures) ∙ c .before .if1 .taken
 
-  within : start .args .session .reply .length ≤ length (start .args .session .reply .payload)
+  within : start .args .reply .length ≤ length (start .args .reply .payload)
   within =
-      let size : length (start .args .session .reply .payload) ≡ 125 = search needs in
+      let size : length (start .args .reply .payload) ≡ 125 = search needs in
       omega (arith, start .pre .0 waiting)
 
-  measured : fits (start .args .session .held) (start .args .output .now) (replyFrame (start .args .session) (start .args .mask)) ≡ c .reply-fits .result
-  measured = reply-fits-by (start .args .session) (start .args .mask) (start .args .output .now) four within ∙ sym (c .reply-fits .ensures)
+  measured : fits (start .args .held) (start .args .output .now) (replyBytes (start .args .client) (start .args .reply) (start .args .mask)) ≡ c .reply-fits .result
+  measured =
+      reply-fits-by (start .args .client) (start .args .reply) (start .args .held) (start .args .mask) (start .args .output .now) four within
+      ∙ sym (c .reply-fits .ensures)
 
 is-waiting-requires : tie.Need-is-waiting-requires
 is-waiting-requires c κs = search needs
@@ -54,10 +56,10 @@ put-frame-requires : tie.Need-put-frame-requires
 put-frame-requires c κs =
     let code = c .before .before in
     let fit = code .before .before .before in
-    let s = start fit .args .session in
-    let size : headerSize (isClient (s .settings)) (s .reply .length) + s .reply .length ≤ length (start fit .args .output .now) - s .held =
+    let a = start fit .args in
+    let size : headerSize (a .client) (a .reply .length) + a .reply .length ≤ length (a .output .now) - a .held =
     leb-true _ _ (sym (fit .reply-fits .ensures) ∙ code .before .before .if2 .taken) in
-    (search needs, simp (zero-add, length-take-le (s .reply .length) (s .reply .payload) (within fit)) (omega (arith, size, start fit .pre .1)))
+    (search needs, simp (zero-add, length-take-le (a .reply .length) (a .reply .payload) (within fit)) (omega (arith, size, start fit .pre .1)))
 
 no-reply-requires : tie.Need-no-reply-requires
 no-reply-requires c κs = search needs
@@ -71,19 +73,14 @@ returns c =
     let code = frame .before .before .before in
     let fit = code .before .before .before in
     let a = start fit .args in
-    reply-moves (a .session) (a .mask) (a .output .now) (waiting fit) (measured fit ∙ code .before .before .if2 .taken) (code .reply-code .ensures)
-    (c .no-reply .ensures) (frame .put-frame .ensures .0) (frame .put-frame .ensures .1)
+    reply-moves (a .client) (a .reply) (a .held) (a .mask) (a .output .now) (waiting fit) (measured fit ∙ code .before .before .if2 .taken)
+    (code .reply-code .ensures) (c .no-reply .ensures) (frame .put-frame .ensures .0) (frame .put-frame .ensures .1)
 
 returns-2 : tie.Need-returns-2
-returns-2 c =
-    let fit = c .before in
-    let a = start fit .args in
-    sym (waits-on (a .session) (a .mask) (a .output .now) (waiting fit) (measured fit ∙ c .if2 .left))
+returns-2 c = waits-on _ _ _ _ _ (waiting (c .before)) (measured (c .before) ∙ c .if2 .left)
 
 returns-3 : tie.Need-returns-3
-returns-3 c =
-    let a = c .before .before .before .before .args in
-    sym (waits-not (a .session) (a .mask) (a .output .now) (sym (c .before .is-waiting .ensures) ∙ c .if1 .left))
+returns-3 c = waits-not _ _ _ _ _ (sym (c .before .is-waiting .ensures) ∙ c .if1 .left)
 
 pub move-reply-spec : {M : Type 1} → statement M
 move-reply-spec =

@@ -7,6 +7,7 @@ use lib.Dec.{ltb}
 use lib.ListN.{length}
 use Rattle.base.specs.Tests.{firstOf}
 use Rattle.session.specs.Calls.{outputShort, sendTests}
+use Rattle.session.specs.Range.{inRange}
 use Rattle.writer.proofs.Calls.{pong-owed, pong-done}
 use Rattle.writer.proofs.Moving.{pong-short}
 use Rattle.writer.proofs.Numbers.{Clear, clear, reply-short}
@@ -16,10 +17,10 @@ use Rattle.writer.proofs.send.pong.Tie as tie
 -- the number is that of the tests
 module _ (c : tie.After-send-number) where
   abbrev start : tie.Start
-  start = c .before .before .before
+  start = c .before .before .before .before .before .before
 
   numbered : c .send-number .result ≡ firstOf (sendTests (start .args .session) (start .args .output .now) (ltb 125 (length (start .args .payload .now))))
-  unfolding sendTests outputShort
+  unfolding sendTests outputShort inRange
   numbered = c .send-number .ensures
 
 -- none is owed
@@ -57,7 +58,7 @@ same-length c = search needs
 
 returns-2 : tie.Need-returns-2
 returns-2 c =
-    let moved = c .before .before in
+    let moved = c .before .before .before in
     let made = moved .before .before .before in
     pong-done _ _ _ _ (none-owed (made .before .before)) (made .with-pong .ensures) (moved .move-reply .ensures)
 

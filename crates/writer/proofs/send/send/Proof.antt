@@ -12,6 +12,7 @@ use Rattle.base.specs.Tests.{firstOf}
 use Rattle.base.proofs.Stores.{length-laid}
 use Rattle.frame.specs.Header.{headerSize}
 use Rattle.session.specs.Calls.{outputShort, sendTests}
+use Rattle.session.specs.Range.{inRange}
 use Rattle.session.specs.Replies.{encoded, fits}
 use Rattle.session.specs.Session.{isClient}
 use Rattle.writer.proofs.Calls.{send-owed, send-no-room, send-done}
@@ -32,10 +33,10 @@ lead-taken c =
 -- the number is that of the tests
 module _ (c : tie.After-send-number) where
   abbrev start : tie.Start
-  start = c .before .before .before
+  start = c .before .before .before .before .before .before
 
   numbered : c .send-number .result ≡ firstOf (sendTests (start .args .session) (start .args .output .now) (start .args .bad))
-  unfolding sendTests outputShort
+  unfolding sendTests outputShort inRange
   numbered = c .send-number .ensures
 
 -- none is owed
@@ -49,7 +50,7 @@ module _ (c : tie.Else1) where
 -- the frame is measured
 module _ (c : tie.After-fits-in) where
   abbrev begin : tie.Start
-  begin = start (c .before .before .before .before)
+  begin = start (c .before .before .before)
 
   abbrev bytes : List ℕ
   bytes =
@@ -68,7 +69,7 @@ module _ (c : tie.Else2) where
   fitting = measured (c .before) ∙ not-false _ (c .if2 .left)
 
   room : begin (c .before) .args .session .held + length (bytes (c .before)) ≤ length (begin (c .before) .args .output .now)
-  room = fits-within _ _ _ fitting (all-clear (c .before .before .before .before) .held-within)
+  room = fits-within _ _ _ fitting (all-clear (c .before .before .before) .held-within)
 
 send-number-requires : tie.Need-send-number-requires
 send-number-requires c κs = search needs
@@ -77,13 +78,13 @@ returns : tie.Need-returns
 returns c = send-owed _ _ _ _ _ _ _ (numbered (c .before)) (c .if1 .taken)
 
 sub-fits-in : tie.Need-sub-fits-in
-sub-fits-in c = all-clear (c .before .before) .held-within
+sub-fits-in c = all-clear (c .before) .held-within
 
 fits-in-requires : tie.Need-fits-in-requires
 fits-in-requires c κs = search needs
 
 returns-2 : tie.Need-returns-2
-returns-2 c = send-no-room _ _ _ _ _ _ _ (none-owed (c .before .before .before .before)) (measured (c .before) ∙ not-true _ (c .if2 .taken))
+returns-2 c = send-no-room _ _ _ _ _ _ _ (none-owed (c .before .before .before)) (measured (c .before) ∙ not-true _ (c .if2 .taken))
 
 put-frame-requires : tie.Need-put-frame-requires
 put-frame-requires c κs =
@@ -92,24 +93,24 @@ put-frame-requires c κs =
     let n : ℕ = a .count + length (a .piece .now) in
     let size : headerSize (isClient (a .session .settings)) n + n ≤ length (a .output .now) - a .session .held =
     leb-true _ _ (sym (fit .fits-in .ensures) ∙ not-false _ (c .before .before .if2 .left)) in
-    (begin fit .pre, omega (arith, size, all-clear (fit .before .before .before) .held-within))
+    (begin fit .pre, omega (arith, size, all-clear (fit .before .before) .held-within))
 
 move-reply-requires : tie.Need-move-reply-requires
 move-reply-requires c κs =
     let put = c .before .before .before .before in
     let fit = put .before .before .before in
     let same : length (put .put-frame .last .1 .1 .1 .1 .1 .1 .0) ≡ length (begin (fit .before) .args .output .now) = ap length (put .put-frame .ensures .1) ∙ simp length-laid in
-    (reply-short _ (all-clear (fit .before .before .before .before) .in-range), omega (arith, same, put .put-frame .ensures .0, room fit))
+    (reply-short _ (all-clear (fit .before .before .before) .in-range), omega (arith, same, put .put-frame .ensures .0, room fit))
 
 same-length : tie.Need-same-length
 same-length c = search needs
 
 returns-3 : tie.Need-returns-3
 returns-3 c =
-    let moved = c .before .before in
+    let moved = c .before .before .before in
     let put = moved .before .before .before .before .before in
     let fit = put .before .before .before in
-    send-done _ _ _ _ _ _ _ (none-owed (fit .before .before .before .before)) (fitting fit) (put .put-frame .ensures .0) (put .put-frame .ensures .1) (moved .move-reply .ensures)
+    send-done _ _ _ _ _ _ _ (none-owed (fit .before .before .before)) (fitting fit) (put .put-frame .ensures .0) (put .put-frame .ensures .1) (moved .move-reply .ensures)
 
 pub send-spec : {M : Type 1} → statement M
 send-spec =

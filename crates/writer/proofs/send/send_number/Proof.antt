@@ -6,7 +6,7 @@ use native.Mathlib.Omega.{arith}
 use borrow.Author.Needs.{needs}
 use borrow.Author.Tests.{eq-eqb, ne-eqb}
 use Rattle.base.proofs.Tests.{met, passed, none-met, settled, first-clear}
-use Rattle.session.specs.Range.{inRange}
+use Rattle.session.specs.Range.{rangeOf}
 use Rattle.writer.proofs.Numbers.{short}
 use Rattle.writer.proofs.send.send_number.Statement.{statement}
 use Rattle.writer.proofs.send.send_number.Tie as tie
@@ -14,7 +14,7 @@ use Rattle.writer.proofs.send.send_number.Tie as tie
 -- neither 20 nor 1 is owed
 sound : (c : tie.Else1)
     → let a = c .before .before .args in
-    (not (inRange (a .session)) ≡ false) × (short (a .size) (a .session .held) ≡ false)
+    (not (rangeOf (a .settings) (a .state) (a .refusal) (a .incoming) (a .waiting) (a .count)) ≡ false) × (short (a .size) (a .held) ≡ false)
 sound c =
     let range = first-clear 20 _ _ (omega arith) (sym (c .before .owed .ensures) ∙ c .if1 .left) in
     (range .0, first-clear 1 _ _ (omega arith) (range .1) .0)
