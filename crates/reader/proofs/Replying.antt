@@ -2,14 +2,15 @@
 use mathlib.Core.Path.{_≡_, refl, ap, _∙_}
 use mathlib.Core.Bool.{true, false}
 use mathlib.Core.List.{List}
-use Prim.Native.Nat.{ℕ}
+use Prim.Native.Nat.{ℕ, _≤_}
 use native.Mathlib.Omega.{arith}
 use lib.Dec.{eqb}
-use lib.ListN.{take}
+use lib.ListN.{length, take}
 use borrow.Author.Tests.{eq-eqb, ne-eqb}
 use Rattle.base.specs.Stores.{laid}
 use Rattle.base.specs.Table.{pick}
 use Rattle.base.proofs.Choice.{by-test}
+use Rattle.base.proofs.Stores.{length-laid}
 use Rattle.frame.specs.Close.{closeOf, closeBytes, violation}
 use Rattle.session.specs.declared.Answer.the-variants.{Ping, Close}
 use Rattle.session.specs.declared.Reply.{Reply}
@@ -17,6 +18,7 @@ use Rattle.session.specs.declared.Session.{Session}
 use Rattle.session.specs.declared.Waiting.the-variants.{Close as CloseReply}
 use Rattle.session.specs.Replies.{concluded, codeAllowed, replyOf, withPong, shownLength, shownControl, closeCame, pingCame}
 use Rattle.session.specs.Session.{isActive, withState, withReply}
+use Rattle.steady.proofs.Moves.{shown-short}
 
 -- ---- what an answered close shows: itself, or 1002 in its place
 module _ (control : List ℕ) (n : ℕ) where
@@ -28,6 +30,16 @@ module _ (control : List ℕ) (n : ℕ) where
       → (20 ≡ shownLength control n) × (d ≡ shownControl control n)
   unfolding shownLength shownControl
   shown-replaced l u = rw l (refl, u)
+
+  length-shown : length (shownControl control n) ≡ length control
+  unfolding shownControl
+  length-shown = by-test (codeAllowed (closeOf (take n control))) (λ t. rw t) (λ t. rw t (length-laid control 0 (closeBytes 1002 violation)))
+
+  -- it fits a reply, and stands in the store
+  pub shown-fits : n ≤ 125 → 125 ≤ length control → {m : ℕ} {d : List ℕ} → m ≡ shownLength control n → d ≡ shownControl control n
+      → (m ≤ 125) × (m ≤ length d)
+  shown-fits h k u v =
+      (omega (arith, u, shown-short control n h), omega (arith, u, shown-short control n h, ap length v, length-shown))
 
 module _ (s : Session) (control : List ℕ) (n : ℕ) where
   -- ---- a ping: it makes a pong in Active, and nothing in another state

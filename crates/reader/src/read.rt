@@ -117,15 +117,16 @@ fn flag(end: bool, answer: Answer, state: u8) -> Flagged
     let more = message::pump::is_more(answer);
     if end {
         if more {
+            let over = session::TERMINATED;
             if is_peer_closed(state) {
                 return Flagged {
                     answer: Answer::Closed,
-                    state: session::TERMINATED,
+                    state: over,
                 };
             }
             return Flagged {
                 answer: Answer::Refused(16),
-                state: session::TERMINATED,
+                state: over,
             };
         }
     }
@@ -205,7 +206,15 @@ fn read_on(
         };
     }
     take_on(
-        settings, state, refusal, incoming, reply, piece, end, message, control,
+        settings,
+        state,
+        refusal,
+        incoming,
+        reply,
+        piece,
+        end,
+        message,
+        control,
     )
 }
 

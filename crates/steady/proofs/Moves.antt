@@ -64,7 +64,7 @@ unfolding withPong
 pong-shaped q p h = by-test (isCloseReply (q .waiting)) (λ t. rw t h) (λ t. rw t (payload-laid q PongReply p h))
 
 -- ---- an event
-shown-short : (control : List ℕ) (n : ℕ) → n ≤ 125 → shownLength control n ≤ 125
+pub shown-short : (control : List ℕ) (n : ℕ) → n ≤ 125 → shownLength control n ≤ 125
 unfolding shownLength
 shown-short control n h = by-test (codeAllowed (closeOf (take n control))) (λ t. rw t h) (λ t. rw t (omega arith))
 

@@ -1,34 +1,33 @@
+-- `reader::read::flag` meets its contract: closed, 16, an event in spite of the flag, or no flag.
+use mathlib.Core.Path.{sym, _∙_}
 use borrow.Author.Needs.{needs}
+use Rattle.reader.proofs.Turns.{flag-closed, flag-early, flag-event, flag-off}
 use Rattle.reader.proofs.read.flag.Statement.{statement}
 use Rattle.reader.proofs.read.flag.Tie as tie
-use Rattle.reader.proofs.read.flag.Reads as reads
-use Rattle.reader.proofs.read.flag.Lts as lts
-use Rattle.message.proofs.pump.is_more.Reads as is-more-reads
-use Rattle.reader.proofs.read.is_peer_closed.Reads as is-peer-closed-reads
 
--- src/read.rt:117:9
 is-more-requires : tie.Need-is-more-requires
 is-more-requires c κs = search needs
 
--- src/read.rt:120:16
 is-peer-closed-requires : tie.Need-is-peer-closed-requires
 is-peer-closed-requires c κs = search needs
 
--- src/read.rt:121:17
 returns : tie.Need-returns
-returns c = ?
+returns c =
+    let more = c .before .before in
+    flag-closed _ _ _ (more .before .if1 .taken) (sym (more .before .before .is-more .ensures) ∙ more .if2 .taken)
+    (sym (c .before .is-peer-closed .ensures) ∙ c .if3 .taken)
 
--- src/read.rt:126:13
 returns-2 : tie.Need-returns-2
-returns-2 c = ?
+returns-2 c =
+    let more = c .before .before in
+    flag-early _ _ _ (more .before .if1 .taken) (sym (more .before .before .is-more .ensures) ∙ more .if2 .taken)
+    (sym (c .before .is-peer-closed .ensures) ∙ c .if3 .left)
 
--- src/read.rt:114:1
 returns-3 : tie.Need-returns-3
-returns-3 c = ?
+returns-3 c = flag-event _ _ _ (sym (c .before .before .is-more .ensures) ∙ c .if2 .left)
 
--- src/read.rt:114:1
 returns-4 : tie.Need-returns-4
-returns-4 c = ?
+returns-4 c = flag-off _ _ _ (c .if1 .left)
 
 pub flag-spec : {M : Type 1} → statement M
 flag-spec =

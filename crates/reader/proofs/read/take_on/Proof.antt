@@ -1,35 +1,57 @@
+-- `reader::read::take_on` meets its contract: bytes are taken, the event is concluded, and the flag is looked at.
+use mathlib.Core.Path.{_≡_, _∙_}
+use mathlib.Core.Bool.{true}
+use Prim.Native.Nat.{ℕ}
+use native.Mathlib.Omega.{arith}
 use borrow.Author.Needs.{needs}
+use Rattle.session.specs.declared.Session.{Session}
+use Rattle.session.specs.Range.{inRange}
+use Rattle.session.proofs.InRange.{range-session, good}
+use Rattle.steady.specs.Shape.{Shaped}
+use Rattle.reader.specs.Whole.{sessionOf}
+use Rattle.reader.proofs.Turns.{shows, same-control, take-done}
 use Rattle.reader.proofs.read.take_on.Statement.{statement}
 use Rattle.reader.proofs.read.take_on.Tie as tie
-use Rattle.reader.proofs.read.take_on.Reads as reads
-use Rattle.reader.proofs.read.take_on.Lts as lts
-use Rattle.message.proofs.pump.take_bytes.Reads as take-bytes-reads
-use Rattle.reader.proofs.conclude.conclude_with.Reads as conclude-with-reads
-use Rattle.reader.proofs.read.flag.Reads as flag-reads
 
--- src/read.rt:152:9
+-- a session with these parts: it is in range, and its header and its reply's payload are arrays
+abbrev whole : tie.Start → ℕ → Session
+whole c held = sessionOf (c .args .settings) (c .args .state) (c .args .refusal) (c .args .incoming) (c .args .reply) held
+
+ranged : (c : tie.Start) → inRange (whole c 0) ≡ true
+ranged c = range-session (whole c 0) ∙ c .pre .0
+
+shaped : (c : tie.Start) → Shaped (whole c 0)
+shaped c = (search needs, search needs)
+
+module _ (c : tie.After-take-bytes) where
+  abbrev start : tie.Start
+  start = c .before .before .before .before .before .before
+
 take-bytes-requires : tie.Need-take-bytes-requires
-take-bytes-requires c κs = ?
+take-bytes-requires c κs = let s = c .before .before .before .before .before in (good (s .pre .0) .kept-most, s .pre .1)
 
--- src/read.rt:154:9
 conclude-with-requires : tie.Need-conclude-with-requires
-conclude-with-requires c κs = ?
+conclude-with-requires c κs =
+    let taken = c .before .before .before .before .before in (
+      shows (whole (start taken) 0) _ _ _ (taken .take-bytes .ensures) (shaped (start taken)) (ranged (start taken)),
+      omega (arith, same-control (whole (start taken) 0) _ _ _ (taken .take-bytes .ensures), start taken .pre .1 .1),
+    )
 
--- src/read.rt:156:9
 flag-requires : tie.Need-flag-requires
 flag-requires c κs = search needs
 
--- src/read.rt:136:1
 same-length : tie.Need-same-length
 same-length c = search needs
 
--- src/read.rt:136:1
 same-length-2 : tie.Need-same-length-2
 same-length-2 c = search needs
 
--- src/read.rt:136:1
 returns : tie.Need-returns
-returns c = ?
+returns c held output =
+    let flagged = c .before .before in
+    let left = flagged .before .before .before in
+    let taken = left .before .before .before .before .before .before in
+    take-done (whole (start taken) held) _ _ _ (taken .take-bytes .ensures) _ (left .conclude-with .ensures _ _ held) (flagged .flag .ensures .0) (flagged .flag .ensures .1) output
 
 pub take-on-spec : {M : Type 1} → statement M
 take-on-spec =
