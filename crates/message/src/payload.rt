@@ -10,7 +10,6 @@ ghost use Rattle.base.specs.Bytes.{part};
 ghost use Rattle.base.specs.Stores.{laid};
 ghost use Rattle.base.specs.Table.{pick};
 ghost use Rattle.frame.specs.Header.{maskIn};
-ghost use Rattle.mask.specs.Mask.{masked};
 ghost use Rattle.base.specs.Tests.{firstOf};
 ghost use Rattle.session.specs.Frames.{kept, frame, headerTests, progressNow};
 ghost use Rattle.session.specs.Reading.{world, counts, stored, keep};
@@ -60,18 +59,6 @@ fn mask_kept(incoming: Incoming) -> [u8; 4]
     frame::header::mask_of(&header[..n])
 }
 
-// A run from the payload's byte `position` on, unmasked where the frame is masked.
-fn put_plain(masking: bool, mask: [u8; 4], position: usize, run: &[u8], store: &mut [u8], at: usize)
-    requires { ⌜ at + length (now run) ≤ length (now store) ⌝ }
-    ensures { λ _. ⌜ now (store .exit) ≡ laid (now (store .entry)) at (pick masking (masked mask position (now (run .entry))) (now (run .entry))) ⌝ }
-{
-    if masking {
-        mask::apply_mask(run, store, at, mask, position);
-    } else {
-        stores::copy(run, store, at);
-    }
-}
-
 // The progress behind the n bytes that were laid at a place, where they are text.
 fn checked(text: bool, incoming: Incoming, message: &[u8], at: usize, n: usize) -> u8
     requires { ⌜ at + n ≤ length (now message) ⌝ }
@@ -110,11 +97,11 @@ pub(crate) fn store_run(
     let counted = incoming.counted;
     let opcode = header.opcode;
     if crate::kinds::is_control(opcode) {
-        put_plain(header.masked, mask, counted, run, control, counted);
+        stores::put(header.masked, mask, counted, run, control, counted);
         return count_on(incoming, n, incoming.progress);
     }
     let at = crate::doom::bytes_before(incoming) + counted;
-    put_plain(header.masked, mask, counted, run, message, at);
+    stores::put(header.masked, mask, counted, run, message, at);
     let text = crate::kinds::is_text_code(incoming.text, opcode);
     let progress = checked(text, incoming, message, at, n);
     count_on(incoming, n, progress)

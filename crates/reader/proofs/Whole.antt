@@ -27,8 +27,8 @@ use Rattle.steady.proofs.Again.{Room, stores-room}
 use Rattle.steady.proofs.Moves.{move-range}
 use Rattle.steady.proofs.Parts.{in-range}
 use Rattle.steady.proofs.Passing.{lateClose}
-use Rattle.writer.specs.Moves.{moving, moveOf}
-use Rattle.writer.proofs.Moving.{reply-fits-by, reply-frame, parts-move}
+use Rattle.replies.specs.Moves.{moving, moveOf}
+use Rattle.replies.proofs.Moving.{reply-fits-by, reply-frame, parts-move}
 
 -- ---- a session's own refusal is the number, or there is none
 pub repeated : (n : ℕ) → n ≡ firstOf ((n when not (eqb n 0)) ∷ [])

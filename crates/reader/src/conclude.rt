@@ -46,7 +46,7 @@ fn ping_came(state: u8, reply: Reply, control: &[u8], n: usize) -> Reply
     ensures { λ r. ⌜ r ≡ pick (isActive state) (withPong reply (take n (now (control .entry)))) reply ⌝ }
 {
     if state == session::ACTIVE {
-        return writer::reply::with_pong(reply, &control[..n]);
+        return replies::reply::with_pong(reply, &control[..n]);
     }
     reply
 }
@@ -75,7 +75,7 @@ fn close_came(state: u8, refusal: u8, reply: Reply, control: &mut [u8], n: usize
             answer: Answer::Close(shown),
             state: session::CLOSED_BY_PEER,
             refusal,
-            reply: writer::reply::make_reply(reply, Waiting::Close, &control[..shown]),
+            reply: replies::reply::make_reply(reply, Waiting::Close, &control[..shown]),
         };
     }
     if state == session::CLOSED_BY_US {

@@ -90,9 +90,9 @@ fn is_stuck(settings: Settings, waiting: Waiting, count: usize, held: usize, siz
     ensures { λ r. ⌜ r ≡ both (isServer settings) (both (isCloseReply waiting) (not (leb (headerSize (isClient settings) count + count) (size - held)))) ⌝ }
 {
     if settings.role == session::SERVER {
-        if writer::reply::is_close(waiting) {
+        if replies::reply::is_close(waiting) {
             let client = settings.role == session::CLIENT;
-            return !writer::reply::reply_fits(client, count, held, size);
+            return !replies::reply::reply_fits(client, count, held, size);
         }
     }
     false
@@ -262,7 +262,7 @@ pub fn read(
     }
     let first = masks.first;
     let client = settings.role == session::CLIENT;
-    let moved = writer::reply::move_reply(client, reply, session.held, first, output);
+    let moved = replies::reply::move_reply(client, reply, session.held, first, output);
     let waits = moved.reply;
     let gone = read_on(
         settings,

@@ -7,6 +7,8 @@ use Rattle.session.proofs.range.header_number.Kinds as number-kinds
 use Rattle.session.proofs.range.header_number.Reads as number-reads
 use Rattle.session.proofs.range.in_range.Kinds as range-kinds
 use Rattle.session.proofs.range.in_range.Reads as range-reads
+use Rattle.session.proofs.range.waits.Kinds as waits-kinds
+use Rattle.session.proofs.range.waits.Reads as waits-reads
 
 pub new-one : OneAnswer 0 new-kinds.ps new-kinds.r new-reads.Post
 new-one κs a r r′ e e′ p q = p ∙ sym q
@@ -16,3 +18,6 @@ header-number-one κs a r r′ e e′ p q = p ∙ sym q
 
 pub in-range-one : OneAnswer 0 range-kinds.ps range-kinds.r range-reads.Post
 in-range-one κs a r r′ e e′ p q = p ∙ sym q
+
+pub waits-one : OneAnswer 0 waits-kinds.ps waits-kinds.r waits-reads.Post
+waits-one κs a r r′ e e′ p q = p ∙ sym q

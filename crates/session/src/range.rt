@@ -137,7 +137,8 @@ fn incoming_holds(settings: Settings, refusal: u8, incoming: Incoming) -> bool
     header_and_count_hold(settings, refusal, incoming)
 }
 
-fn waits(waiting: Waiting) -> bool
+// Whether a reply waits.
+pub fn waits(waiting: Waiting) -> bool
     ensures { λ r. ⌜ r ≡ waits waiting ⌝ }
 {
     match waiting {

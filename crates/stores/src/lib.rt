@@ -4,6 +4,8 @@ ghost use Prim.Native.Nat.{_+_, _-_, _≤_};
 ghost use lib.ListN.{length};
 ghost use Rattle.base.specs.Bytes.{part};
 ghost use Rattle.base.specs.Stores.{laid};
+ghost use Rattle.base.specs.Table.{pick};
+ghost use Rattle.mask.specs.Mask.{masked};
 
 // Lays a piece over the store from place `at` on.
 pub fn copy(piece: &[u8], store: &mut [u8], at: usize)
@@ -14,6 +16,19 @@ pub fn copy(piece: &[u8], store: &mut [u8], at: usize)
     while i < piece.len() {
         store[at + i] = piece[i];
         i += 1;
+    }
+}
+
+// Lays a piece of a payload, from its byte `position` on, over the store from place `at` on: masked or unmasked where the frame is masked,
+// and else as it is.
+pub fn put(masking: bool, mask: [u8; 4], position: usize, piece: &[u8], store: &mut [u8], at: usize)
+    requires { ⌜ at + length (now piece) ≤ length (now store) ⌝ }
+    ensures { λ _. ⌜ now (store .exit) ≡ laid (now (store .entry)) at (pick masking (masked mask position (now (piece .entry))) (now (piece .entry))) ⌝ }
+{
+    if masking {
+        mask::apply_mask(piece, store, at, mask, position);
+    } else {
+        copy(piece, store, at);
     }
 }
 

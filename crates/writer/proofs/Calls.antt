@@ -26,8 +26,8 @@ use Rattle.session.specs.Replies.{encoded, fits, withPong, Out, appended, moveR
 use Rattle.session.specs.Session.{isClient, withState, withReply, withHeld}
 use Rattle.session.proofs.Choices.{either-all}
 use Rattle.utf8.specs.Progress.{progressAfter, isWhole}
-use Rattle.writer.specs.Moves.{moving, moveOf}
-use Rattle.writer.proofs.Moving.{parts-move}
+use Rattle.replies.specs.Moves.{moving, moveOf}
+use Rattle.replies.proofs.Moving.{parts-move}
 use Rattle.writer.proofs.Numbers.{long-parts}
 
 -- what a reply that moved, or not, leaves

@@ -1,5 +1,3 @@
-pub mod Encoding
-pub mod Moving
 pub mod Numbers
 pub mod Calls
 pub mod OneAnswer

@@ -3,7 +3,6 @@ use mathlib.Core.Path.{sym, ap, _∙_}
 use denote.Ref.{now, ptr}
 use Rattle.base.proofs.Promise.{OneAnswer, OneStore, OnePart}
 use Rattle.session.specs.Calls.{Sending}
-use Rattle.writer.specs.Moves.{Moving}
 use Rattle.writer.proofs.output.held.Kinds as held
 use Rattle.writer.proofs.output.held.Reads as held-reads
 use Rattle.writer.proofs.output.held_number.Kinds as held-number
@@ -12,18 +11,6 @@ use Rattle.writer.proofs.output.take.Kinds as take
 use Rattle.writer.proofs.output.take.Reads as take-reads
 use Rattle.writer.proofs.output.waits.Kinds as waits
 use Rattle.writer.proofs.output.waits.Reads as waits-reads
-use Rattle.writer.proofs.reply.is_close.Kinds as is-close
-use Rattle.writer.proofs.reply.is_close.Reads as is-close-reads
-use Rattle.writer.proofs.reply.is_waiting.Kinds as is-waiting
-use Rattle.writer.proofs.reply.is_waiting.Reads as is-waiting-reads
-use Rattle.writer.proofs.reply.make_reply.Kinds as make-reply
-use Rattle.writer.proofs.reply.make_reply.Reads as make-reply-reads
-use Rattle.writer.proofs.reply.move_reply.Kinds as move-reply
-use Rattle.writer.proofs.reply.move_reply.Reads as move-reply-reads
-use Rattle.writer.proofs.reply.reply_fits.Kinds as reply-fits
-use Rattle.writer.proofs.reply.reply_fits.Reads as reply-fits-reads
-use Rattle.writer.proofs.reply.with_pong.Kinds as with-pong
-use Rattle.writer.proofs.reply.with_pong.Reads as with-pong-reads
 use Rattle.writer.proofs.send.binary.Kinds as binary
 use Rattle.writer.proofs.send.binary.Reads as binary-reads
 use Rattle.writer.proofs.send.close.Kinds as close
@@ -82,26 +69,3 @@ take-one κs a z z′ e e′ p q = ap (λ (x : Sending). x .handed) (p ∙ sym q
 
 pub take-one-store : OneStore 1 take.ps take.r (λ κs e. now (e .1 .1 .0)) take-reads.Post
 take-one-store κs a z z′ e e′ p q = ap (λ (x : Sending). x .output) (p ∙ sym q)
-
--- ---- the waiting reply
-pub make-reply-one : OneAnswer 1 make-reply.ps make-reply.r make-reply-reads.Post
-make-reply-one κs a z z′ e e′ p q = p ∙ sym q
-
-pub is-close-one : OneAnswer 0 is-close.ps is-close.r is-close-reads.Post
-is-close-one κs a z z′ e e′ p q = p ∙ sym q
-
-pub with-pong-one : OneAnswer 1 with-pong.ps with-pong.r with-pong-reads.Post
-with-pong-one κs a z z′ e e′ p q = p ∙ sym q
-
-pub reply-fits-one : OneAnswer 0 reply-fits.ps reply-fits.r reply-fits-reads.Post
-reply-fits-one κs a z z′ e e′ p q = p ∙ sym q
-
-pub is-waiting-one : OneAnswer 0 is-waiting.ps is-waiting.r is-waiting-reads.Post
-is-waiting-one κs a z z′ e e′ p q = p ∙ sym q
-
--- the two parts that it gives, and the output store
-pub move-reply-one : OneAnswer 1 move-reply.ps move-reply.r move-reply-reads.Post
-move-reply-one κs a z z′ e e′ p q = ap (λ (x : Moving). record { reply = x .reply; held = x .held }) (p ∙ sym q)
-
-pub move-reply-one-store : OneStore 1 move-reply.ps move-reply.r (λ κs e. now (e .1 .1 .1 .1 .0)) move-reply-reads.Post
-move-reply-one-store κs a z z′ e e′ p q = ap (λ (x : Moving). x .output) (p ∙ sym q)

@@ -1,6 +1,4 @@
 // Sending (document 01, "Sending"): the calls that put frames into the output store and hand them over, carried over from the Rust's
 // protocol/mod.rs and protocol/frame/mod.rs.
-mod frames;
 pub mod output;
-pub mod reply;
 pub mod send;

@@ -20,7 +20,7 @@ pub fn waits(session: Session) -> bool
 {
     let reply = session.reply;
     let waiting = reply.waiting;
-    crate::reply::is_waiting(waiting)
+    session::range::waits(waiting)
 }
 
 // The number that a session and an output store of this size owe, 20 before 1, or 0. It takes the session's parts, since no byte is

@@ -101,16 +101,25 @@ fn send(
         };
     }
     let client = settings.role == session::CLIENT;
-    if !crate::frames::fits_in(client, count, piece.len(), output.len() - held) {
+    if !replies::frames::fits_in(client, count, piece.len(), output.len() - held) {
         return Handed {
             sent: Sent::Refused(19),
             session,
         };
     }
     let first = masks.first;
-    let behind = crate::frames::put_frame(client, opcode, first, lead, count, piece, output, held);
+    let behind = replies::frames::put_frame(
+        client,
+        opcode,
+        first,
+        lead,
+        count,
+        piece,
+        output,
+        held,
+    );
     let second = masks.second;
-    let moved = crate::reply::move_reply(client, reply, behind, second, output);
+    let moved = replies::reply::move_reply(client, reply, behind, second, output);
     let left = moved.reply;
     let mut next = session;
     next.state = state;
@@ -263,9 +272,9 @@ pub fn pong(session: Session, payload: &[u8], masks: Masks, output: &mut [u8]) -
         };
     }
     let client = settings.role == session::CLIENT;
-    let asked = crate::reply::with_pong(reply, payload);
+    let asked = replies::reply::with_pong(reply, payload);
     let mask = masks.first;
-    let moved = crate::reply::move_reply(client, asked, held, mask, output);
+    let moved = replies::reply::move_reply(client, asked, held, mask, output);
     let left = moved.reply;
     let mut next = session;
     next.reply = left;

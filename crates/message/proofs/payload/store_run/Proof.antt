@@ -59,8 +59,8 @@ mask-kept-requires c κs = search needs
 is-control-requires : tie.Need-is-control-requires
 is-control-requires c κs = search needs
 
-put-plain-requires : tie.Need-put-plain-requires
-put-plain-requires c κs = control-fits (c .before)
+put-requires : tie.Need-put-requires
+put-requires c κs = control-fits (c .before)
 
 count-on-requires-2 : tie.Need-count-on-requires-2
 count-on-requires-2 c κs = counted-fits (start (c .before .before .before .before .before))
@@ -74,7 +74,7 @@ returns-2 c =
     let a = start t .args in
     run-control (a .settings) (a .state) (a .incoming) (a .message .now) (a .control .now) (a .run .now) (a .header) (start t .pre .0)
     (clear t) (sym (t .is-control .ensures) ∙ c .before .before .before .before .before .if2 .taken) (t .before .mask-kept .ensures)
-    (c .before .before .before .put-plain .ensures) (c .count-on2 .ensures)
+    (c .before .before .before .put .ensures) (c .count-on2 .ensures)
 
 bytes-before-requires : tie.Need-bytes-before-requires
 bytes-before-requires c κs = search needs
@@ -82,8 +82,8 @@ bytes-before-requires c κs = search needs
 add-at : tie.Need-add-at
 add-at c = omega (arith, c .bytes-before .ensures, data-fits (c .before), message-fits (start (c .before .before)))
 
-put-plain-requires-2 : tie.Need-put-plain-requires-2
-put-plain-requires-2 c κs = omega (arith, c .before .bytes-before .ensures, data-fits (c .before .before))
+put-requires-2 : tie.Need-put-requires-2
+put-requires-2 c κs = omega (arith, c .before .bytes-before .ensures, data-fits (c .before .before))
 
 is-text-code-requires : tie.Need-is-text-code-requires
 is-text-code-requires c κs = search needs
@@ -91,7 +91,7 @@ is-text-code-requires c κs = search needs
 checked-requires : tie.Need-checked-requires
 checked-requires c κs =
     let b = c .before .before .before .before .before .before in
-    let same = ap length (c .before .before .before .before .put-plain2 .ensures) ∙ length-laid _ _ _ in
+    let same = ap length (c .before .before .before .before .put2 .ensures) ∙ length-laid _ _ _ in
     omega (arith, same, b .bytes-before .ensures, data-fits (b .before))
 
 count-on-requires-3 : tie.Need-count-on-requires-3
@@ -106,7 +106,7 @@ returns-3 c =
     let b = c .before .before .before .before .before .before .before .before in
     let t = b .before .before in
     let a = start t .args in
-    let laid-there = c .before .before .before .before .before .before .put-plain2 .ensures in
+    let laid-there = c .before .before .before .before .before .before .put2 .ensures in
     let room : b .bytes-before .result + a .incoming .counted + length (a .run .now) ≤ length (a .message .now) =
     omega (arith, b .bytes-before .ensures, data-fits (b .before)) in
     run-data (a .settings) (a .state) (a .incoming) (a .message .now) (a .control .now) (a .run .now) (a .header) (start t .pre .0)
@@ -125,13 +125,13 @@ store-run-spec =
     returns
     mask-kept-requires
     is-control-requires
-    put-plain-requires
+    put-requires
     count-on-requires-2
     same-length
     returns-2
     bytes-before-requires
     add-at
-    put-plain-requires-2
+    put-requires-2
     is-text-code-requires
     checked-requires
     count-on-requires-3

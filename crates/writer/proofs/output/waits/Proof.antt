@@ -4,12 +4,12 @@ use Rattle.session.specs.Calls.{waitsCall}
 use Rattle.writer.proofs.output.waits.Statement.{statement}
 use Rattle.writer.proofs.output.waits.Tie as tie
 
-is-waiting-requires : tie.Need-is-waiting-requires
-is-waiting-requires c κs = search needs
+waits-requires : tie.Need-waits-requires
+waits-requires c κs = search needs
 
 returns : tie.Need-returns
 unfolding waitsCall
-returns c = c .is-waiting .ensures
+returns c = c .waits .ensures
 
 pub waits-spec : {M : Type 1} → statement M
-waits-spec = tie.close (tie.spec is-waiting-requires returns)
+waits-spec = tie.close (tie.spec waits-requires returns)

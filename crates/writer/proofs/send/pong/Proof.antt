@@ -9,7 +9,7 @@ use Rattle.base.specs.Tests.{firstOf}
 use Rattle.session.specs.Calls.{outputShort, sendTests}
 use Rattle.session.specs.Range.{inRange}
 use Rattle.writer.proofs.Calls.{pong-owed, pong-done}
-use Rattle.writer.proofs.Moving.{pong-short}
+use Rattle.replies.proofs.Moving.{pong-short}
 use Rattle.writer.proofs.Numbers.{Clear, clear, reply-short}
 use Rattle.writer.proofs.send.pong.Statement.{statement}
 use Rattle.writer.proofs.send.pong.Tie as tie

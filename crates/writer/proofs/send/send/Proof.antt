@@ -16,7 +16,7 @@ use Rattle.session.specs.Range.{inRange}
 use Rattle.session.specs.Replies.{encoded, fits}
 use Rattle.session.specs.Session.{isClient}
 use Rattle.writer.proofs.Calls.{send-owed, send-no-room, send-done}
-use Rattle.writer.proofs.Encoding.{fits-within, fits-by-parts}
+use Rattle.replies.proofs.Encoding.{fits-within, fits-by-parts}
 use Rattle.writer.proofs.Numbers.{Clear, clear, reply-short}
 use Rattle.writer.proofs.send.send.Statement.{statement}
 use Rattle.writer.proofs.send.send.Tie as tie
