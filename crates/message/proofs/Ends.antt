@@ -5,7 +5,7 @@ use mathlib.Core.List.{List, [], _∷_, _++_}
 use Prim.Native.Nat.{ℕ, _+_, _<_, _≤_}
 use native.Mathlib.Omega.{arith}
 use lib.Dec.{eqb, leb}
-use lib.ListN.{length, take, drop, drop-of-length-le}
+use lib.ListN.{length, take}
 use borrow.Author.Needs.{needs}
 use borrow.Author.Tests.{eq-eqb, ne-eqb, eqb-true, eqb-false, lt-leb, le-leb}
 use Rattle.base.specs.Table.{pick}
@@ -16,6 +16,7 @@ use Rattle.coding.specs.declared.opcode.Control.{Control as ControlKind}
 use Rattle.coding.specs.declared.opcode.Data.{Data as DataKind}
 use Rattle.coding.specs.declared.opcode.OpCode.{OpCode}
 use Rattle.coding.specs.declared.opcode.OpCode.the-variants.{Data, Control, Reserved}
+use Rattle.frame.specs.Close.{closeOf}
 use Rattle.frame.specs.declared.header.FrameHeader.{FrameHeader}
 use Rattle.session.specs.declared.Answer.{Answer}
 use Rattle.session.specs.declared.Answer.the-variants.{More, Text, Binary, Refused}
@@ -24,11 +25,20 @@ use Rattle.session.specs.declared.Settings.{Settings}
 use Rattle.session.specs.Frames.{isControl, isClose, isTextCode, isText, headerWhole, frame, headerTests, before, progressNow, doomTests, doom, reasonHolds, textHolds, utfTest, verdict}
 use Rattle.session.specs.Reading.{World, world, between, controlEvent, ended, refuse, finish, rest, settle}
 use Rattle.utf8.specs.Progress.{progressAfter, isWhole}
+use Rattle.message.specs.Reasons.{hasReason}
 
--- a payload with no reason
-pub reason-none : (p : List ℕ) → length p < 2 → true ≡ reasonHolds p
-unfolding reasonHolds progressAfter isWhole
-reason-none p h = let e : drop 2 p ≡ [] = drop-of-length-le p {i = 2} (omega arith) in rw e
+-- a payload with no reason, and one with a code before it
+pub reason-none : (p : List ℕ) → hasReason (closeOf p) ≡ false → true ≡ reasonHolds p
+unfolding closeOf reasonHolds progressAfter isWhole
+reason-none [] e = refl
+reason-none (b ∷ []) e = refl
+reason-none (b ∷ (c ∷ p)) e = absurd (let z : _≡_ {A = ℕ} 0 1 = cc in omega arith)
+
+pub reason-there : (p : List ℕ) → hasReason (closeOf p) ≡ true → 2 ≤ length p
+unfolding closeOf
+reason-there [] e = absurd (let z : _≡_ {A = ℕ} 0 1 = cc in omega arith)
+reason-there (b ∷ []) e = absurd (let z : _≡_ {A = ℕ} 0 1 = cc in omega arith)
+reason-there (b ∷ (c ∷ p)) e = omega arith
 
 -- a close is a control frame, and no text
 pub close-is-control : (op : OpCode) → isClose op ≡ true → isControl op ≡ true

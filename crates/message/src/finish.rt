@@ -1,6 +1,7 @@
 // The frame's last byte has come: its event, its refusal, or on to the next frame.
 use coding::opcode::Control;
 use coding::opcode::OpCode;
+use frame::close::ClosePayload;
 use frame::header::FrameHeader;
 use frame::header::Parsed;
 use session::Answer;
@@ -13,6 +14,7 @@ ghost use Prim.Native.Nat.{ℕ, _+_, _≤_};
 ghost use lib.ListN.{length, take};
 ghost use Rattle.base.specs.Table.{pick};
 ghost use Rattle.base.specs.Tests.{firstOf};
+ghost use Rattle.message.specs.Reasons.{hasReason};
 ghost use Rattle.session.specs.Frames.{isReserved, isControl, frame, headerTests, before, progressNow, textHolds, reasonHolds, verdict};
 ghost use Rattle.session.specs.Reading.{world, between, controlEvent, ended, refuse, finish, rest, settle};
 
@@ -31,15 +33,26 @@ fn text_holds(header: FrameHeader, incoming: Incoming) -> bool
     utf8::is_beginning(progress)
 }
 
+// Whether a reason is looked at: behind every code, allowed or not, since the code is judged only once the close is no refusal.
+fn has_reason(payload: ClosePayload) -> bool
+    ensures { λ r. ⌜ r ≡ hasReason payload ⌝ }
+{
+    match payload {
+        ClosePayload::Empty => false,
+        ClosePayload::OneByte => false,
+        ClosePayload::CodeAndReason(_) => true,
+    }
+}
+
 // A reason begins behind the code.
 fn reason_holds(payload: &[u8]) -> bool
     ensures { λ r. ⌜ r ≡ reasonHolds (now (payload .entry)) ⌝ }
 {
-    if payload.len() < 2 {
-        return true;
+    if has_reason(frame::close::into_close(payload)) {
+        let scanned = utf8::scan(utf8::START, &payload[2..]);
+        return utf8::is_whole(scanned.progress);
     }
-    let scanned = utf8::scan(utf8::START, &payload[2..]);
-    utf8::is_whole(scanned.progress)
+    true
 }
 
 // The number that the frame is refused with, or 0.
