@@ -1,5 +1,5 @@
 -- Laws of a waiting reply that moves to the output: its three cases, and that a session's reply moves as its parts do.
-use mathlib.Core.Path.{_≡_, refl, sym, ap, _∙_}
+use mathlib.Core.Path.{_≡_, refl, ap, _∙_}
 use mathlib.Core.Bool.{Bool, true, false}
 use mathlib.Core.List.{List}
 use Prim.Native.Nat.{ℕ, _+_, _-_, _≤_}
@@ -16,7 +16,7 @@ use Rattle.session.specs.declared.Reply.{Reply}
 use Rattle.session.specs.declared.Session.{Session}
 use Rattle.session.specs.declared.Waiting.the-variants.{Pong}
 use Rattle.session.specs.Range.{waits}
-use Rattle.session.specs.Replies.{encoded, fits, replyOf, isCloseReply, withPong, replyCode, noReply, replyFrame, Out, out, appended, moveReply}
+use Rattle.session.specs.Replies.{encoded, fits, replyOf, isCloseReply, withPong, replyCode, noReply, replyFrame, out, appended, moveReply}
 use Rattle.session.specs.Session.{isClient, withReply, withHeld}
 use Rattle.replies.specs.Moves.{replyBytes, Moving, moving, moveOf}
 use Rattle.replies.proofs.Encoding.{fits-by}

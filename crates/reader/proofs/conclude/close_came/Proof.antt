@@ -1,5 +1,5 @@
 -- `reader::conclude::close_came` meets its contract: answered in Active, acknowledged in ClosedByUs, else shown.
-use mathlib.Core.Path.{_≡_, sym}
+use mathlib.Core.Path.{sym}
 use Prim.Native.Nat.{ℕ, _≤_}
 use lib.ListN.{length}
 use lib.Seq.{length-take-le}

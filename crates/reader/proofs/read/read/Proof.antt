@@ -1,6 +1,5 @@
 -- `reader::read::read` meets its contract: a number is owed, or a waiting close does not fit, or the reply moves and the call goes on.
 use mathlib.Core.Path.{_≡_, sym, _∙_}
-use native.Mathlib.Omega.{arith}
 use borrow.Author.Needs.{needs}
 use lib.ListN.{length}
 use Rattle.base.specs.Tests.{firstOf}
