@@ -1,0 +1,4 @@
+pub mod Places
+pub mod Records
+pub mod Listing
+pub mod Steps
