@@ -103,7 +103,7 @@ module _ (g : Settings) (state : ℕ) where
   feed-taken x [] = omega arith
   feed-taken x (b ∷ vs) = omega (arith, step-taken x b, feed-taken (step g state x b) vs)
 
-  step-one : (x : At) (b : ℕ) → isMore (x .world .answer) ≡ true → step g state x b .taken ≡ x .taken + 1
+  pub step-one : (x : At) (b : ℕ) → isMore (x .world .answer) ≡ true → step g state x b .taken ≡ x .taken + 1
   unfolding step
   step-one x b t = rw t
 

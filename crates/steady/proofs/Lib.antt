@@ -8,6 +8,7 @@ pub mod InRangeStays
 pub mod Feeding
 pub mod Again
 pub mod OneCall
+pub mod Decided
 pub mod AnyCutting
 pub mod Taking
 pub mod Sizes

@@ -23,7 +23,7 @@ use Rattle.session.specs.Replies.{Out, out, moveReply, closeCame, pingCame, Con
 use Rattle.session.specs.Session.{isServer, isActive, isClosedByUs, isPeerClosed, isTerminated, withState, withIncoming}
 use Rattle.session.proofs.Choices.{both-none}
 use Rattle.session.proofs.Fold.{is-more, feed-append, feed-stopped, feed-cut}
-use Rattle.steady.specs.Cutting.{isEvent}
+use Rattle.steady.specs.Cutting.{isEvent, isFinal}
 use Rattle.steady.specs.Shape.{Shaped}
 use Rattle.steady.proofs.Again.{Moved, moved, Room, stores-room, room-stores}
 use Rattle.steady.proofs.Feeding.{fed-sizes, feed-taken, feed-all, feed-moves, settle-still}
@@ -45,7 +45,7 @@ abbrev pub later : ℕ → Read → Read
 later n r = read (turn (r .turn .answer) (n + r .turn .taken) (r .turn .session)) (r .message) (r .control) (r .output)
 
 -- ---- the flag
-flagged-taken : (end : Bool) (d : Concluded) (n : ℕ) → flagged end d n .taken ≡ n
+pub flagged-taken : (end : Bool) (d : Concluded) (n : ℕ) → flagged end d n .taken ≡ n
 unfolding flagged
 flagged-taken end d n = by-test (both end (isMore (d .answer))) (λ t. rw t) (λ t. rw t)
 
@@ -140,15 +140,35 @@ module _ (s : Session) (masks : Masks) (message control output : List ℕ) where
       (λ u. taking (read-passed s (masks .first) message control output (eqb-true n 0 t)) u (λ piece end. rw (t, u))))
       (λ t. refused n (λ piece end. rw t))
 
--- ---- how many bytes a call takes, and what an event leaves
-flagged-event : (end : Bool) (d : Concluded) (n : ℕ) → isEvent (flagged end d n .answer) ≡ true → flagged end d n ≡ turn (d .answer) n (d .session)
+-- ---- how many bytes a call takes, and what an answer that is not final leaves
+flagged-on : (end : Bool) (d : Concluded) (n : ℕ) → isFinal (flagged end d n .answer) ≡ false → flagged end d n ≡ turn (d .answer) n (d .session)
 unfolding flagged
-flagged-event end d n =
-    by-test (both end (isMore (d .answer))) (λ t. rw t (λ h. never h (last (isPeerClosed (d .session .state))))) (λ t. rw t (λ h. refl))
+flagged-on end d n =
+    by-test (both end (isMore (d .answer))) (λ t. rw t (λ h. never (last (isPeerClosed (d .session .state))) h)) (λ t. rw t (λ h. refl))
   where
-    last : (p : Bool) → isEvent (pick p Closed (Refused 16)) ≡ false
+    last : (p : Bool) → isFinal (pick p Closed (Refused 16)) ≡ true
     last true = refl
     last false = refl
+
+on-zero : (a : Answer) → isFinal a ≡ false → refusalOf a ≡ 0
+on-zero More h = refl
+on-zero (Text n) h = refl
+on-zero (Binary n) h = refl
+on-zero (Ping n) h = refl
+on-zero (Pong n) h = refl
+on-zero (Close n) h = refl
+on-zero Closed h = never refl h
+on-zero (Refused k) h = never refl h
+
+pub event-on : (a : Answer) → isEvent a ≡ true → isFinal a ≡ false
+event-on More h = refl
+event-on (Text n) h = refl
+event-on (Binary n) h = refl
+event-on (Ping n) h = refl
+event-on (Pong n) h = refl
+event-on (Close n) h = refl
+event-on Closed h = sym h
+event-on (Refused k) h = sym h
 
 pub event-zero : (a : Answer) → isEvent a ≡ true → (refusalOf a ≡ 0) × (isMore a ≡ false)
 event-zero More h = never h refl
@@ -183,57 +203,80 @@ module _ (s : Session) (masks : Masks) (message control output : List ℕ) (piec
           rw (e piece end)
           (omega (arith, flagged-taken end d (x .taken), feed-taken (u .settings) (u .state) (after (settle (u .settings) (u .state) (world (u .incoming) message control More)) 0) piece))
 
-  module _ (h : isEvent (call .turn .answer) ≡ true) where
-    no-event : {r : Read} {A : Type 0} → call ≡ r → isEvent (r .turn .answer) ≡ false → A
-    no-event e f = never h (ap (λ (r : Read). isEvent (r .turn .answer)) e ∙ f)
+  module _ (h : isFinal (call .turn .answer) ≡ false) where
+    no-final : {r : Read} {A : Type 0} → call ≡ r → isFinal (r .turn .answer) ≡ true → A
+    no-final e f = never (ap (λ (r : Read). isFinal (r .turn .answer)) e ∙ f) h
 
-    -- an event in the bytes is the call's, whatever the flag
-    event-there : {output : List ℕ} → call ≡ outcome u end output x
-        → (call .turn .session ≡ d .session) × (call .turn .taken ≡ x .taken) × (isEvent (d .answer) ≡ true)
-    event-there e =
-        let f : isEvent (flagged end d (x .taken) .answer) ≡ true = sym (ap (λ (r : Read). isEvent (r .turn .answer)) e) ∙ h in
-        let q : flagged end d (x .taken) ≡ turn (d .answer) (x .taken) (d .session) = flagged-event end d (x .taken) f in (
+    -- an answer that is not final is that of the bytes, whatever the flag
+    on-there : {output : List ℕ} → call ≡ outcome u end output x
+        → (call .turn .session ≡ d .session) × (call .turn .taken ≡ x .taken) × (call .turn .answer ≡ d .answer)
+    on-there e =
+        let f : isFinal (flagged end d (x .taken) .answer) ≡ false = sym (ap (λ (r : Read). isFinal (r .turn .answer)) e) ∙ h in
+        let q : flagged end d (x .taken) ≡ turn (d .answer) (x .taken) (d .session) = flagged-on end d (x .taken) f in (
           ap (λ (r : Read). r .turn .session) e ∙ ap (λ (t : Turn). t .session) q,
           ap (λ (r : Read). r .turn .taken) e ∙ ap (λ (t : Turn). t .taken) q,
-          sym (ap (λ (t : Turn). isEvent (t .answer)) q) ∙ f,
+          ap (λ (r : Read). r .turn .answer) e ∙ ap (λ (t : Turn). t .answer) q,
         )
 
     -- the session waits for the next byte
-    pub event-waits : Shaped s → Waits (call .turn .session .settings) (call .turn .session .incoming)
-    event-waits sh = go (way s masks message control output)
+    pub on-waits : Shaped s → Waits (call .turn .session .settings) (call .turn .session .incoming)
+    on-waits sh = go (way s masks message control output)
       where
         go : Way s masks message control output → Waits (call .turn .session .settings) (call .turn .session .incoming)
-        go (refused n e) = no-event (e piece end) refl
-        go (closed e) = no-event (e piece end) refl
+        go (refused n e) = no-final (e piece end) refl
+        go (closed e) = no-final (e piece end) refl
         go (taking p c e) =
-            let f = event-there (e piece end) in
+            let f = on-there (e piece end) in
             let y : FineWorld (u .settings) (x .world) = fed-fine u piece message control (move-shaped s (masks .first) output sh) (move-range s (masks .first) output (p .ranged)) in
             let j : Session = withIncoming u (x .world .incoming) in
-            let zero : refusalOf (x .world .answer) ≡ 0 = sym (conclude-number (x .world .answer) j (x .world .control)) ∙ event-zero (d .answer) (f .2) .0 in
+            let zero : refusalOf (x .world .answer) ≡ 0 =
+            sym (conclude-number (x .world .answer) j (x .world .control)) ∙ on-zero (d .answer) (sym (ap isFinal (f .2)) ∙ h) in
             let same = conclude-same (x .world .answer) j (x .world .control) in
             subst₂ (λ (g : Settings) (i : Incoming). Waits g i)
             (sym (ap (λ (t : Session). t .settings) (f .0) ∙ same .0))
             (sym (ap (λ (t : Session). t .incoming) (f .0) ∙ same .1))
             (y .waits zero)
 
+  module _ (h : isEvent (call .turn .answer) ≡ true) where
+    pub event-waits : Shaped s → Waits (call .turn .session .settings) (call .turn .session .incoming)
+    event-waits sh = on-waits (event-on (call .turn .answer) h) sh
+
     -- and an event that was not owed takes a byte
     pub event-takes : Waits (s .settings) (s .incoming) → 0 < call .turn .taken
     event-takes k = go (way s masks message control output)
       where
+        final : isFinal (call .turn .answer) ≡ false
+        final = event-on (call .turn .answer) h
+
         go : Way s masks message control output → 0 < call .turn .taken
-        go (refused n e) = no-event (e piece end) refl
-        go (closed e) = no-event (e piece end) refl
+        go (refused n e) = no-final final (e piece end) refl
+        go (closed e) = no-final final (e piece end) refl
         go (taking p c e) =
-            let f = event-there (e piece end) in
+            let f = on-there final (e piece end) in
             let j : Session = withIncoming u (x .world .incoming) in
             let waits : Waits (u .settings) (u .incoming) = by-move (λ t. Waits (t .settings) (t .incoming)) s (masks .first) output (λ n. k) k in
             let still = settle-still (u .settings) (u .state) (u .incoming) message control waits in
-            let answered : isMore (x .world .answer) ≡ false = sym (conclude-more (x .world .answer) j (x .world .control)) ∙ event-zero (d .answer) (f .2) .1 in
+            let answered : isMore (x .world .answer) ≡ false = sym (conclude-more (x .world .answer) j (x .world .control)) ∙ event-zero (d .answer) (sym (ap isEvent (f .2)) ∙ h) .1 in
             let start : World → At = λ w. feed (u .settings) (u .state) (after w 0) piece in
             let moves : 0 < x .taken =
             subst (λ (w : World). isMore (start w .world .answer) ≡ false → 0 < start w .taken) (sym still)
             (feed-moves (u .settings) (u .state) (after (world (u .incoming) message control More) 0) piece refl) answered in
             omega (arith, f .1)
+
+-- ---- with the end flag no call answers more
+flagged-ends : (d : Concluded) (n : ℕ) → isMore (flagged true d n .answer) ≡ false
+unfolding flagged
+flagged-ends d n =
+    by-test (isMore (d .answer)) (λ t. rw t (by-test (isPeerClosed (d .session .state)) (λ u. rw u) (λ u. rw u))) (λ t. rw t t)
+
+pub ended-answers : (s : Session) (masks : Masks) (message control output piece : List ℕ)
+    → isMore (readCall s piece true masks message control output .turn .answer) ≡ false
+ended-answers s masks message control output piece = go (way s masks message control output)
+  where
+    go : Way s masks message control output → isMore (readCall s piece true masks message control output .turn .answer) ≡ false
+    go (refused n e) = ap (λ (r : Read). isMore (r .turn .answer)) (e piece true)
+    go (closed e) = ap (λ (r : Read). isMore (r .turn .answer)) (e piece true)
+    go (taking p c e) = ap (λ (r : Read). isMore (r .turn .answer)) (e piece true) ∙ flagged-ends _ _
 
 -- ---- the same call with more bytes behind the piece
 module _ (s : Session) (masks : Masks) (message control output : List ℕ) (xs ys : List ℕ) (end : Bool) where

@@ -173,6 +173,10 @@ module _ (s : Session) (piece : List ℕ) (end : Bool) (masks : Masks) (message 
   unfolding readCall
   read-size = by-test (eqb n 0) (λ t. rw t (on .output ∙ move-size s (masks .first) output)) (λ t. rw t)
 
+  pub read-sizes : (length (r .message) ≡ length message) × (length (r .control) ≡ length control)
+  unfolding readCall
+  read-sizes = by-test (eqb n 0) (λ t. rw t (on .message, on .control)) (λ t. rw t (refl, refl))
+
   pub read-grows : length (masks .first) ≡ 4 → Short s → r .turn .session .held ≤ s .held + 131
   unfolding readCall
   read-grows four short =
@@ -209,6 +213,11 @@ take-room s n message control output a =
     (λ t.
     rw t (record { for-message = a .for-message; for-control = a .for-control; for-output = omega arith; for-held = omega arith }))
     (λ t. rw t a)
+
+pub take-size : (s : Session) (n : ℕ) (output : List ℕ) → length (takeCall s n output .output) ≡ length output
+unfolding takeCall
+take-size s n output =
+    by-test (eqb (firstOf (takeTests s n output)) 0) (λ t. rw t (length-laid output 0 (part n (s .held - n) output))) (λ t. rw t)
 
 -- ---- a session in range whose stores are not short
 pub record Fit (run : Run) : Type 0 where
