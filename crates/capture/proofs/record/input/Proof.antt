@@ -45,8 +45,7 @@ wide-requires-2 c κs = search needs
 
 add-count : tie.Need-add-count
 add-count c =
-    let high = c .before .before in
-    omega (arith, high .wide .ensures, high .before .shared-slice-known2 .given 2, c .wide2 .ensures, c .before .shared-slice-known3 .given 3)
+    omega (arith, high c .wide .ensures, high c .before .shared-slice-known2 .given 2, c .wide2 .ensures, c .before .shared-slice-known3 .given 3)
 
 sub-if2 : tie.Need-sub-if2
 sub-if2 c = search needs

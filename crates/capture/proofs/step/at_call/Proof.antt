@@ -9,6 +9,7 @@ use Rattle.capture.proofs.Stepping.{call-lacking, call-within, call-mad
 use Rattle.capture.proofs.step.at_call.Statement.{statement}
 use Rattle.capture.proofs.step.at_call.Tie as tie
 
+-- the call is made: its bytes are there, and its masks are zero
 module _ (c : tie.After-read) where
   abbrev chosen : tie.After-zero-masks
   chosen = c .before .before .before .before
