@@ -1,17 +1,16 @@
 -- Every listing is lines of the six words and then one last line.
 use mathlib.Core.Path.{_≡_, refl, sym, ap, subst, _∙_}
 use mathlib.Core.Bool.{Bool, true, false}
-use mathlib.Core.List.{List, [], _∷_, _++_, append-assoc, append-nil}
-use Prim.Native.Nat.{ℕ, zero, suc, _+_, _<_, _≤_}
+use mathlib.Core.List.{List, [], _++_, append-assoc, append-nil}
+use Prim.Native.Nat.{ℕ, zero, suc, _+_, _<_}
 use native.Mathlib.Omega.{arith}
 use lib.Dec.{eqb}
-use lib.ListN.{length, drop, replicate}
+use lib.ListN.{length, drop}
 use Rattle.base.specs.Bytes.{part}
 use Rattle.base.specs.Table.{pick}
 use Rattle.base.proofs.Choice.{by-test}
 use Rattle.lines.specs.Text.{counted}
-use Rattle.session.specs.Answers.{partOf}
-use Rattle.session.specs.Calls.{Read, heldPart}
+use Rattle.session.specs.Calls.{Read}
 use Rattle.session.specs.declared.Answer.{Answer}
 use Rattle.session.specs.declared.Answer.the-variants.{More, Text, Binary, Ping, Pong, Close, Closed, Refused}
 use Rattle.session.specs.declared.Role.the-variants.{Server as ServerRole, Client as ClientRole}
@@ -19,7 +18,7 @@ use Rattle.steady.specs.Cutting.{isEvent, isFinal}
 use Rattle.steady.proofs.Headers.{never}
 use Rattle.capture.specs.declared.record.Found.{Found}
 use Rattle.capture.specs.declared.record.Found.the-variants.{Lacking, Bad, Server, Client, Input, End}
-use Rattle.capture.specs.Listing.{Tape, tapeOf, putWord, textWord, binaryWord, pingWord, pongWord, closeWord, putText, badText, answerText, called, afterCall, heldText, afterTake, toldText, Fed, behind, callLines, callsFrom, fed, Next, badRecord, nextOf, recordsFrom, records, firstRecord, listingWith, listing}
+use Rattle.capture.specs.Listing.{Tape, tapeOf, putWord, textWord, binaryWord, pingWord, pongWord, closeWord, putText, answerText, called, afterCall, heldText, afterTake, toldText, Fed, behind, callLines, callsFrom, fed, Next, badRecord, nextOf, recordsFrom, records, firstRecord, listingWith}
 use Rattle.capture.specs.Places.{onward}
 use Rattle.capture.specs.Records.{foundIn}
 use Rattle.listing.specs.LastLine.{Word, Lines, LastLine, Listed}

@@ -1,6 +1,6 @@
 -- Document 01's capture and its listing, computed from the definition.
 use mathlib.Core.Bool.{Bool, true, false}
-use mathlib.Core.List.{List, [], _∷_, _++_}
+use mathlib.Core.List.{List, [], _∷_}
 use Prim.Native.Nat.{ℕ}
 use lib.Dec.{T, eqb}
 use Rattle.base.specs.Bytes.{part, fromBig, toBig}

@@ -1,9 +1,9 @@
 -- What the steps hand out is the listing.
-use mathlib.Core.Path.{_≡_, refl, sym, ap, ap₂, subst, _∙_}
+use mathlib.Core.Path.{_≡_, refl, sym, ap, ap₂, _∙_}
 use mathlib.Core.Bool.{Bool, true, false}
 use mathlib.Core.List.{List, [], _∷_, _++_, append-assoc, append-nil}
-use mathlib.Core.Logic.{_⊎_, inl, inr, ⊎-elim}
-use Prim.Native.Nat.{ℕ, _+_, _-_, _<_, _≤_}
+use mathlib.Core.Logic.{_⊎_, ⊎-elim}
+use Prim.Native.Nat.{ℕ, _+_, _-_, _≤_}
 use native.Mathlib.Omega.{arith}
 use lib.Dec.{ltb, leb}
 use lib.ListN.{length, take, drop, length-drop, length-take}
@@ -20,7 +20,6 @@ use Rattle.session.specs.declared.Answer.{Answer}
 use Rattle.session.specs.declared.Answer.the-variants.{More, Text, Binary, Ping, Pong, Close, Closed, Refused}
 use Rattle.session.specs.declared.Role.{Role}
 use Rattle.session.specs.declared.Role.the-variants.{Server as ServerRole, Client as ClientRole}
-use Rattle.session.specs.declared.Session.{Session}
 use Rattle.session.specs.Reading.{isMore}
 use Rattle.steady.specs.Cutting.{isFinal}
 use Rattle.steady.specs.Shape.{Shaped}
@@ -30,12 +29,11 @@ use Rattle.steady.proofs.Sizes.{read-size, read-sizes, take-size}
 use Rattle.capture.specs.declared.record.Found.{Found}
 use Rattle.capture.specs.declared.record.Found.the-variants.{Lacking, Bad, Server, Client, Input, End}
 use Rattle.capture.specs.declared.step.Came.{Came}
-use Rattle.capture.specs.declared.step.Came.the-variants.{Lacking as CameLacking, Full, Line, Last}
+use Rattle.capture.specs.declared.step.Came.the-variants.{Lacking as CameLacking, Line, Last}
 use Rattle.capture.specs.declared.step.Due.{Due}
 use Rattle.capture.specs.declared.step.Due.the-variants.{Role as RoleDue, Record as RecordDue, Call as CallDue, Put as PutDue, Told as ToldDue, Nothing as NothingDue}
 use Rattle.capture.specs.declared.step.Replay.{Replay}
-use Rattle.capture.specs.declared.step.Stepped.{Stepped}
-use Rattle.capture.specs.Listing.{Tape, made, tapeOf, zeroMasks, called, afterCall, heldText, afterTake, putText, toldText, answerText, badText, badRecord, records, firstRecord, listingWith}
+use Rattle.capture.specs.Listing.{Tape, made, tapeOf, zeroMasks, called, afterCall, heldText, afterTake, putText, toldText, answerText, badText, records, firstRecord, listingWith}
 use Rattle.capture.specs.Places.{onward, fileOnward, streamOnward}
 use Rattle.capture.specs.Records.{foundIn}
 use Rattle.capture.specs.Steps.{Step, step, stepped, begun, withDue, lastly, inRole, inRecord, roleText, roleStepped, recordText, recordStepped, callStepped, putStepped, dueAfter, toldStepped, byDue, stepCall}

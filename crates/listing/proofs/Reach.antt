@@ -1,20 +1,17 @@
 -- Offered the whole file at each step, the steps come to the last line: four steps for each byte, and one more, are enough.
 use mathlib.Core.Path.{_≡_, refl, sym, ap, subst, _∙_}
 use mathlib.Core.Bool.{Bool, true, false}
-use mathlib.Core.List.{List, [], _∷_, _++_}
+use mathlib.Core.List.{List}
 use mathlib.Core.Logic.{_⊎_, inl, inr, ⊎-elim}
 use Prim.Native.Nat.{ℕ, zero, suc, _+_, _*_, _-_, _<_, _≤_}
 use native.Mathlib.Omega.{arith}
-use lib.Dec.{ltb, leb}
 use lib.ListN.{length, take, drop, replicate, length-drop}
 use lib.Seq.{take-all, length-take-le}
 use borrow.Author.Tests.{le-leb, le-ltb}
 use Rattle.base.specs.Stores.{laid}
 use Rattle.base.specs.Table.{pick}
-use Rattle.base.specs.Tests.{both, firstOf}
 use Rattle.base.proofs.Choice.{by-test}
-use Rattle.session.specs.Answers.{partOf}
-use Rattle.session.specs.Calls.{Read, noIncoming, fresh, newCall, readCall, heldPart, takeCall}
+use Rattle.session.specs.Calls.{Read, noIncoming, fresh, newCall, readCall, takeCall}
 use Rattle.session.specs.declared.Answer.{Answer}
 use Rattle.session.specs.declared.Answer.the-variants.{More, Text, Binary, Ping, Pong, Close, Closed, Refused}
 use Rattle.session.specs.declared.Role.{Role}
@@ -25,15 +22,15 @@ use Rattle.session.specs.Range.{limitsHold}
 use Rattle.frame.specs.Header.{missing}
 use Rattle.steady.specs.Cutting.{isEvent, isFinal}
 use Rattle.steady.proofs.Headers.{Waits, never}
-use Rattle.steady.proofs.OneCall.{call-taken, on-waits, event-takes, event-on}
+use Rattle.steady.proofs.OneCall.{call-taken, on-waits, event-takes}
 use Rattle.capture.specs.declared.record.Found.{Found}
 use Rattle.capture.specs.declared.record.Found.the-variants.{Lacking, Bad, Server, Client, Input, End}
 use Rattle.capture.specs.declared.step.Due.{Due}
 use Rattle.capture.specs.declared.step.Due.the-variants.{Role as RoleDue, Record as RecordDue, Call as CallDue, Put as PutDue, Told as ToldDue, Nothing as NothingDue}
 use Rattle.capture.specs.declared.step.Replay.{Replay}
-use Rattle.capture.specs.Listing.{made, zeroMasks, putText, answerText, listingWith}
+use Rattle.capture.specs.Listing.{made, zeroMasks, listingWith}
 use Rattle.capture.specs.Records.{foundIn}
-use Rattle.capture.specs.Steps.{Step, step, begun, lastly, inRole, inRecord, roleText, roleStepped, recordText, recordStepped, callStepped, putStepped, dueAfter, toldStepped, byDue, stepCall}
+use Rattle.capture.specs.Steps.{Step, step, begun, lastly, inRole, inRecord, roleText, roleStepped, recordText, recordStepped, callStepped, putStepped, toldStepped, byDue, stepCall}
 use Rattle.listing.specs.Handing.{Desk, Offer, stepOn, handed, handedAll, opened}
 use Rattle.listing.proofs.Fuel.{take-keeps, Within, found-within}
 use Rattle.listing.proofs.Handed.{SoundDesk, Sound, Apt, opened-sound, handed-sound, text-is-listing}

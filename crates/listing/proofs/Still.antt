@@ -1,41 +1,30 @@
 -- What a desk has still to say, and that a step says the next of it.
-use mathlib.Core.Path.{_≡_, refl, sym, ap, ap₂, subst, _∙_}
+use mathlib.Core.Path.{_≡_, refl, sym, ap, ap₂, _∙_}
 use mathlib.Core.Bool.{Bool, true, false}
-use mathlib.Core.List.{List, [], _∷_, _++_, append-assoc, append-nil}
-use mathlib.Core.Logic.{_⊎_, inl, inr, ⊎-elim}
-use Prim.Native.Nat.{ℕ, zero, suc, _+_, _-_, _<_, _≤_}
+use mathlib.Core.List.{List, [], _∷_, _++_, append-assoc}
+use Prim.Native.Nat.{ℕ, zero, suc, _+_, _-_, _≤_}
 use native.Mathlib.Omega.{arith}
-use lib.Dec.{ltb, leb}
-use lib.ListN.{length, take, drop, length-drop}
+use lib.ListN.{take, drop}
 use lib.Seq.{take-nil, drop-drop}
-use borrow.Author.Tests.{ltb-false}
 use Rattle.base.specs.Bytes.{part}
-use Rattle.base.specs.Stores.{laid}
 use Rattle.base.specs.Table.{pick}
-use Rattle.base.specs.Tests.{both}
 use Rattle.base.proofs.Choice.{by-test}
-use Rattle.session.specs.Answers.{partOf}
-use Rattle.session.specs.Calls.{Read, readCall, heldPart, takeCall}
+use Rattle.session.specs.Calls.{Read}
 use Rattle.session.specs.declared.Answer.{Answer}
 use Rattle.session.specs.declared.Answer.the-variants.{More, Text, Binary, Ping, Pong, Close, Closed, Refused}
-use Rattle.session.specs.declared.Role.the-variants.{Server as ServerRole, Client as ClientRole}
 use Rattle.session.specs.Reading.{isMore}
 use Rattle.steady.specs.Cutting.{isEvent, isFinal}
 use Rattle.steady.specs.Shape.{Shaped}
 use Rattle.capture.specs.declared.record.Found.{Found}
-use Rattle.capture.specs.declared.record.Found.the-variants.{Lacking, Bad, Server, Client, Input, End}
-use Rattle.capture.specs.declared.step.Came.{Came}
-use Rattle.capture.specs.declared.step.Came.the-variants.{Lacking as CameLacking, Full, Line, Last}
+use Rattle.capture.specs.declared.record.Found.the-variants.{Input, End}
 use Rattle.capture.specs.declared.step.Due.{Due}
 use Rattle.capture.specs.declared.step.Due.the-variants.{Role as RoleDue, Record as RecordDue, Call as CallDue, Put as PutDue, Told as ToldDue, Nothing as NothingDue}
-use Rattle.capture.specs.declared.step.Replay.{Replay}
-use Rattle.capture.specs.Listing.{Tape, made, tapeOf, zeroMasks, called, afterCall, heldText, afterTake, putText, toldText, answerText, badText, callLines, Fed, behind, fed, Next, next, badRecord, nextOf, records, firstRecord}
+use Rattle.capture.specs.Listing.{Tape, called, afterCall, heldText, afterTake, toldText, badText, callLines, Fed, behind, fed, Next, next, badRecord, nextOf, records, firstRecord}
 use Rattle.capture.specs.Places.{onward}
 use Rattle.capture.specs.Records.{foundIn}
 use Rattle.capture.specs.Steps.{dueAfter}
-use Rattle.listing.proofs.Fuel.{nextTape, else-more, call-within, fed-on, fed-stop, Within, found-within, continued, records-on}
+use Rattle.listing.proofs.Fuel.{nextTape, else-more, fed-on, fed-stop, continued, records-on}
 use Rattle.listing.proofs.Texts.{onward-twice}
-use Rattle.listing.proofs.Windows.{Settled}
 
 -- ---- by what is due
 -- a call on what is left of a record, and all that follows

@@ -1,12 +1,11 @@
 -- How long the lines are, and places that add up.
-use mathlib.Core.Path.{_≡_, refl, sym, ap, _∙_}
-use mathlib.Core.Bool.{Bool, true, false}
+use mathlib.Core.Path.{_≡_, ap}
 use mathlib.Core.List.{List, [], _∷_, _++_}
 use Prim.Native.Nat.{ℕ, _+_, _<_, _≤_}
 use native.Mathlib.Omega.{arith}
 use lib.Dec.{eqb, leb}
 use lib.ListN.{length, take, length-append, length-take}
-use borrow.Author.Tests.{le-leb, lt-leb, leb-true, leb-false}
+use borrow.Author.Tests.{lt-leb, leb-true, leb-false}
 use Rattle.base.specs.Bytes.{part}
 use Rattle.base.specs.Stores.{laid}
 use Rattle.base.specs.Table.{pick}

@@ -1,7 +1,7 @@
 -- The bytes that a call takes run through the one that decided: with these bytes alone the call is the same, and with fewer it says more.
 use mathlib.Core.Path.{_≡_, sym, ap, subst, _∙_}
 use mathlib.Core.Bool.{Bool, true, false}
-use mathlib.Core.List.{List, [], _∷_, _++_}
+use mathlib.Core.List.{List, [], _∷_}
 use Prim.Native.Nat.{ℕ, zero, suc, _+_, _<_, _≤_}
 use native.Mathlib.Omega.{arith}
 use lib.ListN.{length, take, drop, length-take, take-append-drop}
@@ -17,7 +17,6 @@ use Rattle.session.specs.Replies.{Concluded, conclude, moveReply}
 use Rattle.session.specs.Session.{withIncoming}
 use Rattle.session.proofs.Fold.{feed-stopped}
 use Rattle.steady.proofs.Feeding.{feed-taken, step-one}
-use Rattle.steady.proofs.Headers.{never}
 use Rattle.steady.proofs.InRangeStays.{fed}
 use Rattle.steady.proofs.OneCall.{Way, way, refused, closed, taking, outcome, flagged-taken, call-taken, early}
 
