@@ -5,13 +5,13 @@ use mathlib.Core.List.{List}
 use Prim.Native.Nat.{ℕ, _<_, _≤_}
 use native.Mathlib.Omega.{arith}
 use lib.Dec.{ltb}
-use lib.ListN.{length, drop}
+use lib.ListN.{length, take, drop}
 use borrow.Author.Tests.{ltb-false}
 use Rattle.base.specs.Bytes.{part, toBig}
 use Rattle.base.specs.Stores.{laid}
 use Rattle.base.specs.Tests.{both, either}
 use Rattle.coding.specs.declared.opcode.Control.{Control as ControlKind}
-use Rattle.coding.specs.declared.opcode.Control.the-variants.{Close as CloseFrame, Ping as PingFrame}
+use Rattle.coding.specs.declared.opcode.Control.the-variants.{Close as CloseFrame, Ping as PingFrame, Pong as PongFrame}
 use Rattle.coding.specs.declared.opcode.Data.the-variants.{Text as TextFrame, Binary as BinaryFrame}
 use Rattle.coding.specs.declared.opcode.OpCode.{OpCode}
 use Rattle.coding.specs.declared.opcode.OpCode.the-variants.{Data, Control}
@@ -25,9 +25,11 @@ use Rattle.session.specs.declared.Incoming.{Incoming}
 use Rattle.session.specs.declared.Masks.{Masks}
 use Rattle.session.specs.declared.Sent.the-variants.{Done}
 use Rattle.session.specs.declared.Session.{Session}
-use Rattle.session.specs.Frames.{reasonHolds}
+use Rattle.session.specs.declared.Waiting.{Waiting}
+use Rattle.session.specs.declared.Waiting.the-variants.{Nothing as NoReply, Pong as PongReply, Close as CloseReply}
+use Rattle.session.specs.Frames.{isCloseKind, reasonHolds}
 use Rattle.session.specs.Reading.{between as betweenFrames, controlEvent}
-use Rattle.session.specs.Replies.{frameHeader, encoded, Concluded, conclude, moveReply}
+use Rattle.session.specs.Replies.{frameHeader, encoded, isCloseReply, replyCode, replyFrame, Concluded, conclude, moveReply}
 use Rattle.session.specs.Session.{isServer, isClient, isPeerClosed, withIncoming}
 use Rattle.utf8.specs.Progress.{progressAfter, isWhole}
 use Rattle.steady.proofs.Headers.{never}
@@ -144,3 +146,35 @@ module _ (s : Session) (closing : Closing) (reason : List ℕ) (given : Masks) (
       (put-bytes (s .held) output (encoded (isClient (s .settings)) (Control CloseFrame) (given .first) p) _ (sent-puts s 1 (Control CloseFrame) bad p given output h))
       ∙ control-read-back r masks m c o (meets .ready) (isClient (s .settings)) (given .first) p four (meets .to-server) (meets .to-client) (meets .heard)
       (meets .fits) (meets .short) CloseFrame end few room (λ t. not-one closing reason) (λ t. holds p (not-not (isWhole (progressAfter 0 (drop 2 p))) (good .1)))
+
+-- ---- a reply that moved reads back as itself: the pong or the close that waited
+abbrev pub replyKind : Waiting → ControlKind
+replyKind NoReply = PongFrame
+replyKind PongReply = PongFrame
+replyKind CloseReply = CloseFrame
+
+module _ (s : Session) (mask : List ℕ) (four : length mask ≡ 4) (r : Session) (masks : Masks) (m c o : List ℕ) (end : Bool) where
+  abbrev payload : List ℕ
+  payload = take (s .reply .length) (s .reply .payload)
+
+  -- a waiting close carries nothing, or a code and a reason that is text
+  pub reply-reads-back : (meets : Meets (isClient (s .settings)) r masks m c o (length payload)) → length payload ≤ 125 → 125 ≤ length c
+      → (isCloseReply (s .reply .waiting) ≡ true → (length payload ≡ 1 → ⊥) × (reasonHolds payload ≡ true))
+      → readCall r (replyFrame s mask) end masks m c o
+      ≡ controlRead s payload (record { first = mask; second = mask }) o four r masks m c o end meets (replyKind (s .reply .waiting))
+  unfolding replyFrame
+  reply-reads-back meets few room sound =
+      ap (λ (op : OpCode). readCall r (encoded (isClient (s .settings)) op mask payload) end masks m c o) (reply-code (s .reply .waiting))
+      ∙ control-read-back r masks m c o (meets .ready) (isClient (s .settings)) mask payload four (meets .to-server) (meets .to-client) (meets .heard) (meets .fits)
+      (meets .short) (replyKind (s .reply .waiting)) end few room (λ t. sound (close-kind (s .reply .waiting) t) .0)
+      (λ t. sound (close-kind (s .reply .waiting) t) .1)
+    where
+      reply-code : (w : Waiting) → replyCode w ≡ Control (replyKind w)
+      reply-code NoReply = refl
+      reply-code PongReply = refl
+      reply-code CloseReply = refl
+
+      close-kind : (w : Waiting) → isCloseKind (replyKind w) ≡ true → isCloseReply w ≡ true
+      close-kind NoReply t = t
+      close-kind PongReply t = t
+      close-kind CloseReply t = t

@@ -2,6 +2,7 @@
 use mathlib.Core.Path.{_≡_, refl, sym, ap, ap₂, subst, _∙_}
 use mathlib.Core.Bool.{Bool, true, false, not}
 use mathlib.Core.List.{List, [], _∷_, _++_, append-nil}
+use mathlib.Core.Logic.{_⊎_, inl, inr}
 use Prim.Native.Nat.{ℕ, _+_, _-_, _≤_}
 use native.Mathlib.Omega.{arith}
 use lib.Dec.{eqb, ltb}
@@ -26,9 +27,10 @@ use Rattle.session.specs.Replies.{encoded, fits, replyFrame, Out, appended, mov
 use Rattle.session.specs.Session.{isClient, isActive, isTerminated, withState, withHeld}
 use Rattle.steady.proofs.Headers.{never}
 
--- the frame is laid behind the held bytes, and something behind it: nothing, or the waiting reply's frame
-pub record Put (held : ℕ) (output bytes : List ℕ) (x : Out) : Type 0 where
+-- the frame is laid behind the held bytes, and behind it nothing, or the waiting reply's frame
+pub record Put (held : ℕ) (output bytes reply : List ℕ) (x : Out) : Type 0 where
   pub behind : List ℕ
+  pub which : (behind ≡ []) ⊎ (behind ≡ reply)
   pub there : x .output ≡ laid output held (bytes ++ behind)
   pub count : x .session .held ≡ held + length (bytes ++ behind)
   pub room : held + length (bytes ++ behind) ≤ length output
@@ -60,7 +62,7 @@ not-refused false a r k e h = absurd (subst Accepted (sym h ∙ e) tt)
 
 -- ---- a reply moves or not
 move-puts : (s : Session) (mask output : List ℕ) (held : ℕ) (bytes : List ℕ) (o : List ℕ) → output ≡ laid o held bytes → s .held ≡ held + length bytes
-    → held + length bytes ≤ length o → Put held o bytes (moveReply s mask output)
+    → held + length bytes ≤ length o → Put held o bytes (replyFrame s mask) (moveReply s mask output)
 unfolding moveReply appended
 move-puts s mask output held bytes o e h k =
     by-test (both (waits (s .reply .waiting)) (fits (s .held) output (replyFrame s mask)))
@@ -72,6 +74,7 @@ move-puts s mask output held bytes o e h k =
     rw t
     (record {
       behind = r;
+      which = inr refl;
       there = ap₂ (λ (l : List ℕ) (n : ℕ). laid l n r) e h ∙ sym (laid-append o held bytes r);
       count = omega arith;
       room = omega arith;
@@ -81,6 +84,7 @@ move-puts s mask output held bytes o e h k =
     rw t
     (record {
       behind = [];
+      which = inl refl;
       there = e ∙ ap (laid o held) (sym none);
       count = h ∙ ap (λ (l : List ℕ). held + length l) (sym none);
       room = subst (λ (l : List ℕ). held + length l ≤ length o) (sym none) k;
@@ -133,15 +137,15 @@ module _ (s : Session) (state : ℕ) (op : OpCode) (bad : Bool) (p : List ℕ) (
       first-clear 18 bad [] (λ e. absurd (omega arith)) d .0
 
   -- the frame is in the output, behind what was held, and the state is the one given
-  pub sent-puts : x .handed .sent ≡ Done → Put (s .held) output bytes (record { session = x .handed .session; output = x .output })
-  unfolding sendFrame appended
+  pub sent-puts : x .handed .sent ≡ Done → Put (s .held) output bytes (replyFrame s (masks .second)) (record { session = x .handed .session; output = x .output })
+  unfolding sendFrame appended replyFrame
   sent-puts h =
       let z = none-owed h in
       rw (eq-eqb number 0 z)
       (move-puts (withHeld (withState s state) (s .held + length bytes)) (masks .second) (laid output (s .held) bytes) (s .held) bytes output refl refl (has-room z))
 
 -- ---- the frame's bytes can be read off the store
-pub put-bytes : (held : ℕ) (output bytes : List ℕ) (x : Out) → Put held output bytes x → part held (length bytes) (x .output) ≡ bytes
+pub put-bytes : (held : ℕ) (output bytes : List ℕ) {reply : List ℕ} (x : Out) → Put held output bytes reply x → part held (length bytes) (x .output) ≡ bytes
 unfolding part
 put-bytes held output bytes x y =
     let all : List ℕ = bytes ++ y .behind in
