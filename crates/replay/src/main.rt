@@ -1,11 +1,11 @@
 // Replays a capture from standard input and writes its listing to standard output (document 01, "Replay of a capture"). It only passes
 // bytes on: the steps of `capture` make the listing.
-mod window;
-
-use crate::window::Bytes;
-use crate::window::Window;
 use capture::step::Came;
 use capture::step::Replay;
+use input::Window;
+
+// The file's bytes that were read and are not used yet. A record has at most 65,539, so there is room wherever more is wanted.
+type Bytes = [u8; 131072];
 
 // The lines so far, which are written in large blocks. The longest line has room in it twice.
 type Lines = [u8; 131200];
@@ -26,7 +26,7 @@ struct Went {
 
 // Writes the lines up to place `at`.
 fn write_out(lines: &Lines, at: usize) {
-    io::write_all(1, crate::window::front(lines, at));
+    io::write_all(1, input::front(lines, at));
 }
 
 fn went_on(replay: Replay, window: Window, at: usize) -> Went {
@@ -49,7 +49,7 @@ fn ended(replay: Replay, window: Window) -> Went {
 
 // More bytes of the file are wanted. A read that fails is not the file's end: the listing then has no last line, and it is said.
 fn more(replay: Replay, window: Window, at: usize, bytes: &mut Bytes, lines: &Lines) -> Went {
-    let refilled = crate::window::refill(bytes, window);
+    let refilled = input::refill(bytes, window);
     if refilled.failed {
         write_out(lines, at);
         io::write_all(2, b"replay: the capture can't be read\n");
@@ -73,9 +73,9 @@ fn follow(
             write_out(lines, at);
             went_on(replay, window, 0)
         }
-        Came::Line(n) => went_on(replay, window, crate::window::sum(at, n)),
+        Came::Line(n) => went_on(replay, window, input::sum(at, n)),
         Came::Last(n) => {
-            write_out(lines, crate::window::sum(at, n));
+            write_out(lines, input::sum(at, n));
             ended(replay, window)
         }
     }
@@ -92,7 +92,7 @@ fn turn(
     let replay = went.replay;
     let window = went.window;
     let at = went.at;
-    let shown = crate::window::shown(bytes, window);
+    let shown = input::shown(bytes, window);
     let stepped = capture::step::step(
         replay,
         shown,
@@ -105,7 +105,7 @@ fn turn(
     );
     let next = stepped.replay;
     let came = stepped.came;
-    let used = crate::window::used(window, stepped.used);
+    let used = input::used(window, stepped.used);
     follow(came, next, used, at, bytes, lines)
 }
 
@@ -117,7 +117,7 @@ fn main() {
     let mut output = [0u8; 131];
     let mut lines = [0u8; 131200];
     let replay = capture::step::begin();
-    let mut went = went_on(replay, crate::window::none(), 0);
+    let mut went = went_on(replay, input::none(), 0);
     let mut turns = u64::MAX;
     while turns > 0 {
         went = turn(

@@ -1,17 +1,15 @@
-// The bytes of the file that were read and are not used yet: those of an array from one place to another. No place is ever behind the
-// array's end; the tests on places stand in for a proof of that.
-pub(crate) type Bytes = [u8; 131072];
-
-pub(crate) struct Window {
-    pub(crate) from: usize,
-    pub(crate) to: usize,
-    // the file ends behind them
-    pub(crate) ended: bool,
+// A window on standard input: the bytes that were read and are not used yet, those of a lent array from one place to another. No place is
+// ever behind the array's end; the tests on places stand in for a proof of that.
+pub struct Window {
+    pub from: usize,
+    pub to: usize,
+    // the input ends behind them
+    pub ended: bool,
     // a read failed
-    pub(crate) failed: bool,
+    pub failed: bool,
 }
 
-pub(crate) fn none() -> Window {
+pub fn none() -> Window {
     Window {
         from: 0,
         to: 0,
@@ -21,7 +19,7 @@ pub(crate) fn none() -> Window {
 }
 
 // The first n bytes.
-pub(crate) fn front(all: &[u8], n: usize) -> &[u8] {
+pub fn front(all: &[u8], n: usize) -> &[u8] {
     if n <= all.len() {
         return &all[0..n];
     }
@@ -29,16 +27,16 @@ pub(crate) fn front(all: &[u8], n: usize) -> &[u8] {
 }
 
 // The sum of two places in an array.
-pub(crate) fn sum(a: usize, b: usize) -> usize {
-    if a <= 131200 {
-        if b <= 131200 {
+pub fn sum(a: usize, b: usize) -> usize {
+    if a <= 4294967296 {
+        if b <= 4294967296 {
             return a + b;
         }
     }
     a
 }
 
-pub(crate) fn shown(bytes: &[u8], window: Window) -> &[u8] {
+pub fn shown(bytes: &[u8], window: Window) -> &[u8] {
     let from = window.from;
     let to = window.to;
     if from <= to {
@@ -49,7 +47,7 @@ pub(crate) fn shown(bytes: &[u8], window: Window) -> &[u8] {
     &bytes[0..0]
 }
 
-pub(crate) fn used(window: Window, n: usize) -> Window {
+pub fn used(window: Window, n: usize) -> Window {
     Window {
         from: sum(window.from, n),
         to: window.to,
@@ -73,8 +71,9 @@ fn read_behind(bytes: &mut [u8], left: usize) -> Window {
     }
 }
 
-// Moves what is left to the front and reads behind it. A record has at most 65,539 bytes, so there is room wherever more is wanted.
-pub(crate) fn refill(bytes: &mut [u8], window: Window) -> Window {
+// Moves what is left to the front and reads behind it. The array is to have room behind the longest that is waited for: where it has none,
+// the read gives no byte, which is taken for the input's end.
+pub fn refill(bytes: &mut [u8], window: Window) -> Window {
     let from = window.from;
     let to = window.to;
     if bytes.len() < to {
