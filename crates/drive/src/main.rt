@@ -75,15 +75,18 @@ fn behind(state: State, window: Window, line: u64, n: usize, out: &mut Text) -> 
     }
 }
 
-// More bytes of the script are wanted. A read that fails is not the script's end: the line that it would have given is bad, and it is said.
+// More bytes of the script are wanted. The answers are written first: whoever writes the script may wait for them. A read that fails is not
+// the script's end: the line that it would have given is bad, and it is said.
 fn more(state: State, window: Window, line: u64, bytes: &mut Bytes, out: &mut Text) -> Went {
+    crate::text::write_out(out, state.at);
+    let next = crate::state::at(state, 0);
     let refilled = input::refill(bytes, window);
     if refilled.failed {
         io::write_all(2, b"drive: the script can't be read\n");
-        return bad(state, refilled, line, out);
+        return bad(next, refilled, line, out);
     }
     Went {
-        state,
+        state: next,
         window: refilled,
         line,
         on: true,

@@ -105,6 +105,7 @@ fn lent(
     )
 }
 
+// Of stores that are smaller than what is lent of them, which `lend` never leaves.
 fn none(state: State) -> Went {
     Went {
         state: crate::state::bad(state),

@@ -2,16 +2,11 @@
 use crate::state::State;
 use crate::state::Text;
 
-// The bytes of a store that are lent.
-fn lent(store: &[u8], n: usize) -> &[u8] {
-    input::front(store, n)
-}
-
 // `held`
 pub(crate) fn held(state: State, output: &[u8], out: &mut Text) -> State {
     let session = state.session;
-    let lent_part = state.lent;
-    let shown = lent(output, lent_part.output);
+    let sizes = state.lent;
+    let shown = input::front(output, sizes.output);
     let number = writer::output::held_number(session, shown);
     if number != 0 {
         let said = crate::told::refused(number, out, state.at);
@@ -67,7 +62,7 @@ pub(crate) fn stores(
     out: &mut Text,
 ) -> State {
     let sizes = state.lent;
-    let first = counted(state, b"message", lent(message, sizes.message), out);
-    let second = counted(first, b"control", lent(control, sizes.control), out);
-    counted(second, b"output", lent(output, sizes.output), out)
+    let first = counted(state, b"message", input::front(message, sizes.message), out);
+    let second = counted(first, b"control", input::front(control, sizes.control), out);
+    counted(second, b"output", input::front(output, sizes.output), out)
 }

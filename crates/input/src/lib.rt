@@ -1,5 +1,10 @@
 // A window on standard input: the bytes that were read and are not used yet, those of a lent array from one place to another. No place is
 // ever behind the array's end; the tests on places stand in for a proof of that.
+ghost use mathlib.Core.Path.{_≡_};
+ghost use denote.Ref.{ptr};
+ghost use lib.ListN.{take};
+ghost use Rattle.input.specs.Window.{noWindow, sumOf, shownOf, usedOf};
+
 pub struct Window {
     pub from: usize,
     pub to: usize,
@@ -9,7 +14,9 @@ pub struct Window {
     pub failed: bool,
 }
 
-pub fn none() -> Window {
+pub fn none() -> Window
+    ensures { λ r. ⌜ r ≡ noWindow ⌝ }
+{
     Window {
         from: 0,
         to: 0,
@@ -19,15 +26,19 @@ pub fn none() -> Window {
 }
 
 // The first n bytes.
-pub fn front(all: &[u8], n: usize) -> &[u8] {
+pub fn front(all: &[u8], n: usize) -> &[u8]
+    ensures { λ r. ⌜ (now r ≡ take n (now (all .entry))) × (ptr r ≡ ptr (all .entry)) ⌝ }
+{
     if n <= all.len() {
-        return &all[0..n];
+        return &all[..n];
     }
     all
 }
 
 // The sum of two places in an array.
-pub fn sum(a: usize, b: usize) -> usize {
+pub fn sum(a: usize, b: usize) -> usize
+    ensures { λ r. ⌜ r ≡ sumOf a b ⌝ }
+{
     if a <= 4294967296 {
         if b <= 4294967296 {
             return a + b;
@@ -36,18 +47,23 @@ pub fn sum(a: usize, b: usize) -> usize {
     a
 }
 
-pub fn shown(bytes: &[u8], window: Window) -> &[u8] {
+pub fn shown(bytes: &[u8], window: Window) -> &[u8]
+    ensures { λ r. ⌜ now r ≡ shownOf (now (bytes .entry)) window ⌝ }
+{
     let from = window.from;
     let to = window.to;
-    if from <= to {
-        if to <= bytes.len() {
-            return &bytes[from..to];
-        }
+    if to < from {
+        return &bytes[..0];
     }
-    &bytes[0..0]
+    if bytes.len() < to {
+        return &bytes[..0];
+    }
+    &bytes[from..to]
 }
 
-pub fn used(window: Window, n: usize) -> Window {
+pub fn used(window: Window, n: usize) -> Window
+    ensures { λ r. ⌜ r ≡ usedOf window n ⌝ }
+{
     Window {
         from: sum(window.from, n),
         to: window.to,
