@@ -10,13 +10,22 @@ fn either(a: bool, b: bool) -> bool {
     b
 }
 
-// The state behind a call whose answer is told up to place `at`. Its masks are used up.
+fn greater(a: usize, b: usize) -> usize {
+    if a < b {
+        return b;
+    }
+    a
+}
+
+// The state behind a call whose answer is told up to place `at`. Its masks are used up. What it put out
+// ends where the held bytes do.
 pub(crate) fn call(state: State, session: Session, refused: bool, at: usize) -> State {
     let masks = crate::state::no_masks();
     let mut next = state;
     next.session = session;
     next.refused = either(state.refused, refused);
     next.masks = masks;
+    next.reach = greater(state.reach, session.held);
     next.at = at;
     next
 }

@@ -39,6 +39,7 @@ fn begun(state: State, made: Handed, message_limit: usize) -> State {
         masks,
         from: 0,
         to: 0,
+        reach: 0,
         at: state.at,
         bad: false,
     }

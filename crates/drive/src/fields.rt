@@ -267,7 +267,7 @@ pub(crate) fn set(state: State, line: &[u8], given: &mut Given) -> State {
     };
     let session = state.session;
     let changed = with(session, field, n, given);
-    let mut next = state;
+    let mut next = crate::state::by_hand(state);
     next.session = changed;
     next
 }

@@ -118,7 +118,7 @@ fn between(all: &[u8], from: usize, to: usize) -> &[u8] {
     crate::words::behind(input::front(all, to), from)
 }
 
-// One read of what is left over.
+// One read of what is left over. It writes no more bytes than it takes.
 fn one(
     state: State,
     piece: &Piece,
@@ -133,6 +133,7 @@ fn one(
     let went = lent(state, shown, end, message, control, output, out);
     let mut next = went.state;
     next.from = input::sum(from, went.taken);
+    next.reach = input::sum(next.reach, went.taken);
     Went {
         state: next,
         taken: went.taken,

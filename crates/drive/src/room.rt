@@ -7,10 +7,21 @@ use crate::state::Output;
 use crate::state::State;
 use crate::values::Value;
 
-// All zeros, as a session finds them.
-pub(crate) fn clear(message: &mut Message, control: &mut Control, output: &mut Output) {
-    *message = [0u8; 70000];
+// All zeros, as a session finds them. Most sessions reach no further than this, and are spared the whole.
+pub(crate) fn clear(
+    reach: usize,
+    message: &mut Message,
+    control: &mut Control,
+    output: &mut Output,
+) {
     *control = [0u8; 256];
+    if reach <= 1024 {
+        let zeros = [0u8; 1024];
+        laid(&zeros, message, 0);
+        laid(&zeros, output, 0);
+        return;
+    }
+    *message = [0u8; 70000];
     *output = [0u8; 140000];
 }
 
@@ -90,7 +101,7 @@ pub(crate) fn lay(
     let bytes = input::front(given, n as usize);
     let name = crate::words::second(line);
     if laid_over(name, bytes, at as usize, message, control, output) {
-        return state;
+        return crate::state::by_hand(state);
     }
     crate::state::bad(state)
 }

@@ -139,7 +139,7 @@ fn begin(
     output: &mut Output,
     out: &mut Text,
 ) -> State {
-    crate::room::clear(message, control, output);
+    crate::room::clear(state.reach, message, control, output);
     crate::begin::session(state, line, out)
 }
 

@@ -39,6 +39,8 @@ pub(crate) struct State {
     // what the last read left over: the piece from one place to another
     pub(crate) from: usize,
     pub(crate) to: usize,
+    // no byte of the message and output stores behind this place was written since they were zeros
+    pub(crate) reach: usize,
     // the place behind the answers that are not written yet
     pub(crate) at: usize,
     // the line was not understood
@@ -82,9 +84,16 @@ pub(crate) fn none() -> State {
         masks: no_masks(),
         from: 0,
         to: 0,
+        reach: 0,
         at: 0,
         bad: false,
     }
+}
+
+// A script that alters stores or sessions by hand can have a byte written anywhere.
+pub(crate) fn by_hand(mut state: State) -> State {
+    state.reach = 140000;
+    state
 }
 
 pub(crate) fn bad(mut state: State) -> State {
