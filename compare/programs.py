@@ -20,10 +20,10 @@ def lacking(why):
 
 
 def build(*words):
-    """The crate's driver, built where it has to be; ends with 2 where that can't be done."""
+    """The crate's driver, built where it has to be; ends as compare/build does where that can't be done."""
     done = subprocess.run([os.path.join(HERE, "build"), *words], stdout=subprocess.PIPE, text=True)
     if done.returncode:
-        sys.exit(2)
+        sys.exit(done.returncode)
     return [done.stdout.strip()]
 
 
