@@ -32,18 +32,11 @@ use Rattle.session.specs.Reading.{between as betweenFrames, controlEvent}
 use Rattle.session.specs.Replies.{frameHeader, encoded, isCloseReply, replyCode, replyFrame, Concluded, conclude, moveReply}
 use Rattle.session.specs.Session.{isServer, isClient, isPeerClosed, withIncoming}
 use Rattle.utf8.specs.Progress.{progressAfter, isWhole}
+use Rattle.steady.proofs.Again.{either-not}
 use Rattle.steady.proofs.Headers.{never}
 use Rattle.link.proofs.CallBack.{Ready, data-read-back, control-read-back}
 use Rattle.link.proofs.HeaderBack.{keepAll}
-use Rattle.link.proofs.Sent.{sent-puts, put-bytes, not-bad}
-
-not-not : (b : Bool) → not b ≡ false → b ≡ true
-not-not true h = refl
-not-not false h = never refl h
-
-either-none : (a : Bool) {b : Bool} → either a b ≡ false → (a ≡ false) × (b ≡ false)
-either-none true h = never refl h
-either-none false h = (refl, h)
+use Rattle.link.proofs.Sent.{not-false, sent-puts, put-bytes, not-bad}
 
 -- no close of one byte can be asked for
 not-one : (closing : Closing) (reason : List ℕ) → length (closingBytes closing reason) ≡ 1 → ⊥
@@ -92,7 +85,7 @@ module _ (s : Session) (p : List ℕ) (given : Masks) (output : List ℕ) (four 
       (put-bytes (s .held) output (frameOf (Data TextFrame)) _ (sent-puts s (s .state) (Data TextFrame) bad p given output h))
       ∙ data-read-back r masks m c o (meets .ready) (isClient (s .settings)) (given .first) p four (meets .to-server) (meets .to-client) (meets .heard) (meets .fits)
       (meets .short) TextFrame end refl new most
-      (λ t. not-not (isWhole (progressAfter 0 p)) (not-bad s (s .state) (Data TextFrame) bad p given output h))
+      (λ t. not-false (isWhole (progressAfter 0 p)) (not-bad s (s .state) (Data TextFrame) bad p given output h))
 
   -- a binary message, likewise
   pub binary-reads-back : binaryCall s p given output .handed .sent ≡ Done → r .incoming .begun ≡ false → length p ≤ r .settings .message
@@ -140,12 +133,12 @@ module _ (s : Session) (closing : Closing) (reason : List ℕ) (given : Masks) (
   close-reads-back h room =
       let p : List ℕ = closingBytes closing reason in
       let bad : Bool = either (ltb 125 (length p)) (not (isWhole (progressAfter 0 (drop 2 p)))) in
-      let good = either-none (ltb 125 (length p)) (not-bad s 1 (Control CloseFrame) bad p given output h) in
+      let good = either-not (ltb 125 (length p)) (not (isWhole (progressAfter 0 (drop 2 p)))) (not-bad s 1 (Control CloseFrame) bad p given output h) in
       let few : length p ≤ 125 = ltb-false 125 (length p) (good .0) in
       ap (λ (l : List ℕ). readCall r l end masks m c o)
       (put-bytes (s .held) output (encoded (isClient (s .settings)) (Control CloseFrame) (given .first) p) _ (sent-puts s 1 (Control CloseFrame) bad p given output h))
       ∙ control-read-back r masks m c o (meets .ready) (isClient (s .settings)) (given .first) p four (meets .to-server) (meets .to-client) (meets .heard)
-      (meets .fits) (meets .short) CloseFrame end few room (λ t. not-one closing reason) (λ t. holds p (not-not (isWhole (progressAfter 0 (drop 2 p))) (good .1)))
+      (meets .fits) (meets .short) CloseFrame end few room (λ t. not-one closing reason) (λ t. holds p (not-false (isWhole (progressAfter 0 (drop 2 p))) (good .1)))
 
 -- ---- a reply that moved reads back as itself: the pong or the close that waited
 abbrev pub replyKind : Waiting → ControlKind

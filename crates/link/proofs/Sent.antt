@@ -12,7 +12,7 @@ use borrow.Author.Tests.{eq-eqb, eqb-true, leb-true, ltb-false}
 use Rattle.base.specs.Bytes.{part}
 use Rattle.base.specs.Stores.{laid}
 use Rattle.base.specs.Table.{pick}
-use Rattle.base.specs.Tests.{both, either, _when_, firstOf}
+use Rattle.base.specs.Tests.{both, _when_, firstOf}
 use Rattle.base.proofs.Choice.{by-test}
 use Rattle.base.proofs.Stores.{length-laid, laid-append, laid-part}
 use Rattle.base.proofs.Tests.{first-clear}
@@ -25,6 +25,8 @@ use Rattle.session.specs.declared.Session.{Session}
 use Rattle.session.specs.Range.{waits, inRange}
 use Rattle.session.specs.Replies.{encoded, fits, replyFrame, Out, appended, moveReply}
 use Rattle.session.specs.Session.{isClient, isActive, isTerminated, withState, withHeld}
+use Rattle.session.proofs.Choices.{both-parts}
+use Rattle.steady.proofs.Again.{either-not}
 use Rattle.steady.proofs.Headers.{never}
 
 -- the frame is laid behind the held bytes, and behind it nothing, or the waiting reply's frame
@@ -44,15 +46,7 @@ fit-room : (held : ℕ) (output bytes : List ℕ) → fits held output bytes ≡
 unfolding fits
 fit-room held output bytes h = leb-true (length bytes) (length output - held) h
 
-both-second : (a : Bool) {b : Bool} → both a b ≡ true → b ≡ true
-both-second true h = h
-both-second false h = never h refl
-
-either-second : (a : Bool) {b : Bool} → either a b ≡ false → b ≡ false
-either-second true h = never refl h
-either-second false h = h
-
-not-false : (b : Bool) → not b ≡ false → b ≡ true
+pub not-false : (b : Bool) → not b ≡ false → b ≡ true
 not-false true h = refl
 not-false false h = never refl h
 
@@ -69,7 +63,7 @@ move-puts s mask output held bytes o e h k =
     (λ t.
     let r : List ℕ = replyFrame s mask in
     let size : length output ≡ length o = ap length e ∙ length-laid o held bytes in
-    let room : length r ≤ length output - s .held = fit-room (s .held) output r (both-second (waits (s .reply .waiting)) t) in
+    let room : length r ≤ length output - s .held = fit-room (s .held) output r (both-parts (waits (s .reply .waiting)) (fits (s .held) output (replyFrame s mask)) t .1) in
     let sum : length (bytes ++ r) ≡ length bytes + length r = length-append bytes r in
     rw t
     (record {
@@ -123,7 +117,7 @@ module _ (s : Session) (state : ℕ) (op : OpCode) (bad : Bool) (p : List ℕ) (
   has-room h =
       let fit : not (fits (s .held) output bytes) ≡ false = first-clear 19 (not (fits (s .held) output bytes)) [] (λ e. absurd (omega arith)) (none-late h) .0 in
       let short = first-clear 1 (outputShort s output) _ (λ e. absurd (omega arith)) (first-clear 20 (not (inRange s)) _ (λ e. absurd (omega arith)) (none-early h) .1) .0 in
-      let held : s .held ≤ length output = ltb-false (length output) (s .held) (either-second (ltb (length output) 131) short) in
+      let held : s .held ≤ length output = ltb-false (length output) (s .held) (either-not (ltb (length output) 131) (ltb (length output) (s .held)) short .1) in
       omega (arith, fit-room (s .held) output bytes (not-false (fits (s .held) output bytes) fit))
 
   -- what was to be sent is not bad: 18 was not given

@@ -16,6 +16,7 @@ use Rattle.session.specs.declared.Answer.the-variants.{More, Text, Binary, Ping
 use Rattle.session.specs.declared.Role.the-variants.{Server as ServerRole, Client as ClientRole}
 use Rattle.steady.specs.Cutting.{isEvent, isFinal}
 use Rattle.steady.proofs.Headers.{never}
+use Rattle.steady.proofs.OneCall.{event-on}
 use Rattle.capture.specs.declared.record.Found.{Found}
 use Rattle.capture.specs.declared.record.Found.the-variants.{Lacking, Bad, Server, Client, Input, End}
 use Rattle.capture.specs.Listing.{Tape, tapeOf, putWord, textWord, binaryWord, pingWord, pongWord, closeWord, putText, answerText, called, afterCall, heldText, afterTake, toldText, Fed, behind, callLines, callsFrom, fed, Next, badRecord, nextOf, recordsFrom, records, firstRecord, listingWith}
@@ -74,16 +75,6 @@ answer-last (Close n) bytes place h = never h refl
 answer-last Closed bytes place h = closed
 answer-last (Refused k) bytes place h = refused k place
 
-event-goes-on : (a : Answer) → isEvent a ≡ true → isFinal a ≡ false
-event-goes-on More h = refl
-event-goes-on (Text n) h = refl
-event-goes-on (Binary n) h = refl
-event-goes-on (Ping n) h = refl
-event-goes-on (Pong n) h = refl
-event-goes-on (Close n) h = refl
-event-goes-on Closed h = sym h
-event-goes-on (Refused k) h = sym h
-
 call-lines : (t : Tape) (r : Read) → isFinal (r .turn .answer) ≡ false → Lines (callLines t r)
 unfolding callLines heldText toldText
 call-lines t r h = lines-append (put-lines _) (answer-lines (r .turn .answer) _ _ h)
@@ -113,7 +104,7 @@ calls-end (suc k) t piece end =
     by-test (isEvent (r .turn .answer))
     (λ e.
     rw e
-    (on-ends (further .over) (further .text) (call-lines t r (event-goes-on (r .turn .answer) e))
+    (on-ends (further .over) (further .text) (call-lines t r (event-on (r .turn .answer) e))
     (calls-end k (afterTake (afterCall t r)) (drop (r .turn .taken) piece) end)))
     (λ e. rw e (stop-ends t r (isFinal (r .turn .answer)) refl))
 

@@ -33,6 +33,7 @@ use Rattle.capture.specs.declared.step.Came.the-variants.{Lacking as CameLackin
 use Rattle.capture.specs.declared.step.Due.{Due}
 use Rattle.capture.specs.declared.step.Due.the-variants.{Role as RoleDue, Record as RecordDue, Call as CallDue, Put as PutDue, Told as ToldDue, Nothing as NothingDue}
 use Rattle.capture.specs.declared.step.Replay.{Replay}
+use Rattle.capture.proofs.Stepping.{held-most, part-most}
 use Rattle.capture.specs.Listing.{Tape, made, tapeOf, zeroMasks, called, afterCall, heldText, afterTake, putText, toldText, answerText, badText, records, firstRecord, listingWith}
 use Rattle.capture.specs.Places.{onward, fileOnward, streamOnward}
 use Rattle.capture.specs.Records.{foundIn}
@@ -40,7 +41,7 @@ use Rattle.capture.specs.Steps.{Step, step, stepped, begun, withDue, lastly, in
 use Rattle.listing.specs.Handing.{Desk, Offer, laidText, stepOn, handed, handedAll, opened}
 use Rattle.listing.proofs.Fuel.{more-takes, Within, found-within}
 use Rattle.listing.proofs.Still.{dueText, afterTold, input-says, end-says, wrong-says, call-says, told-due}
-use Rattle.listing.proofs.Texts.{short-bad, short-put, short-answer, laid-said, held-within, part-within}
+use Rattle.listing.proofs.Texts.{short-bad, short-put, short-answer, laid-said}
 use Rattle.listing.proofs.Windows.{found-offered, Settled, found-settled}
 
 -- ---- a desk
@@ -204,7 +205,7 @@ module _ (r : Replay) (m c o rest buffer : List ℕ) (at : ℕ) (s : Sound r m c
       record {
         says =
             ap (λ (l : List ℕ). l ++ (toldText a (afterTake (tapeAt r m c o)) ++ afterTold a (afterTake (tapeAt r m c o)) (r .left) (r .end) (r .file .0) rest))
-            (laid-said buffer at text room (short-put (heldPart (r .session) o) (held-within (r .session) o 32768 (s .for-output))));
+            (laid-said buffer at text room (short-put (heldPart (r .session) o) (omega (arith, s .for-output, held-most (r .session) o refl))));
         sound =
             record {
               shaped = shape-stays-take (r .session) (r .session .held) o (s .shaped);
@@ -235,7 +236,7 @@ module _ (r : Replay) (m c o rest buffer : List ℕ) (at : ℕ) (s : Sound r m c
           ≡ answerText a (partOf a m c) (r .stream .0)
       said =
           laid-said buffer at (answerText a (partOf a m c) (r .stream .0)) room
-          (short-answer a (partOf a m c) (r .stream .0) (part-within a m c 32768 (s .for-message) (s .for-control)))
+          (short-answer a (partOf a m c) (r .stream .0) (part-most a m c 32768 (s .for-message) (s .for-control) refl))
 
       after : (b : Answer) → Apt (dueAfter b) (withDue r (r .session) (dueAfter b)) rest
       after More = tt

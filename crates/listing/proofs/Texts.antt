@@ -4,7 +4,7 @@ use mathlib.Core.List.{List, [], _∷_, _++_}
 use Prim.Native.Nat.{ℕ, _+_, _<_, _≤_}
 use native.Mathlib.Omega.{arith}
 use lib.Dec.{eqb, leb}
-use lib.ListN.{length, take, length-append, length-take}
+use lib.ListN.{length, length-append}
 use borrow.Author.Tests.{lt-leb, leb-true, leb-false}
 use Rattle.base.specs.Bytes.{part}
 use Rattle.base.specs.Stores.{laid}
@@ -13,11 +13,8 @@ use Rattle.base.proofs.Choice.{by-test}
 use Rattle.base.proofs.Stores.{laid-part}
 use Rattle.lines.specs.Text.{decimal, shownHex, counted, atPlace}
 use Rattle.lines.proofs.Laws.{length-decimal, length-shown}
-use Rattle.session.specs.Answers.{partNumber, shown, partOf}
-use Rattle.session.specs.Calls.{heldNumber, heldPart}
 use Rattle.session.specs.declared.Answer.{Answer}
 use Rattle.session.specs.declared.Answer.the-variants.{More, Text, Binary, Ping, Pong, Close, Closed, Refused}
-use Rattle.session.specs.declared.Session.{Session}
 use Rattle.capture.specs.Listing.{putWord, textWord, binaryWord, pingWord, pongWord, closeWord, putText, refusedWord, refusedText, badWords, badText, answerText}
 use Rattle.capture.specs.Places.{onward}
 
@@ -97,25 +94,3 @@ short-answer (Refused k) bytes place h = short-refused k place
 -- what a step lays is what it hands out
 pub laid-said : (buffer : List ℕ) (at : ℕ) (text : List ℕ) → at + 65600 ≤ length buffer → Short text → part at (length text) (laid buffer at text) ≡ text
 laid-said buffer at text h k = laid-part buffer at text (omega arith)
-
--- ---- parts are no longer than their stores
-take-within : (n k : ℕ) (l : List ℕ) → length l ≤ k → length (take n l) ≤ k
-take-within n k l h = omega (arith, length-take n l)
-
-pub held-within : (s : Session) (output : List ℕ) (k : ℕ) → length output ≤ k → length (heldPart s output) ≤ k
-unfolding heldPart
-held-within s output k h = by-test (eqb (heldNumber s output) 0) (λ t. rw t (take-within (s .held) k output h)) (λ t. rw t (omega arith))
-
-shown-within : (a : Answer) (m c : List ℕ) (k : ℕ) → length m ≤ k → length c ≤ k → length (shown a m c) ≤ k
-shown-within More m c k h j = omega arith
-shown-within (Text n) m c k h j = take-within n k m h
-shown-within (Binary n) m c k h j = take-within n k m h
-shown-within (Ping n) m c k h j = take-within n k c j
-shown-within (Pong n) m c k h j = take-within n k c j
-shown-within (Close n) m c k h j = take-within n k c j
-shown-within Closed m c k h j = omega arith
-shown-within (Refused n) m c k h j = omega arith
-
-pub part-within : (a : Answer) (m c : List ℕ) (k : ℕ) → length m ≤ k → length c ≤ k → length (partOf a m c) ≤ k
-unfolding partOf
-part-within a m c k h j = by-test (eqb (partNumber a m c) 0) (λ t. rw t (shown-within a m c k h j)) (λ t. rw t (omega arith))
