@@ -46,7 +46,7 @@ module _ (s : Session) (masks : Masks) (message control output piece : List ℕ)
     where
       go : Way s masks message control output → readCall s (take (r .turn .taken) piece) end masks message control output ≡ r
       go (refused n e) = e (take (r .turn .taken) piece) end ∙ sym (e piece end)
-      go (closed e) = e (take (r .turn .taken) piece) end ∙ sym (e piece end)
+      go (closed passed over e) = e (take (r .turn .taken) piece) end ∙ sym (e piece end)
       go (taking p c e) =
           let x : At = fed u piece message control in
           let d : Concluded = conclude (x .world .answer) (withIncoming u (x .world .incoming)) (x .world .control) in

@@ -122,7 +122,8 @@ module _ (s : Session) (masks : Masks) (message control output : List ℕ) where
   pub data Way : Type 0 where
     refused : (n : ℕ)
         → ((piece : List ℕ) (end : Bool) → readCall s piece end masks message control output ≡ read (turn (Refused n) 0 s) message control output) → Way
-    closed : ((piece : List ℕ) (end : Bool)
+    closed : Passed s (masks .first) message control output → closes ≡ true
+        → ((piece : List ℕ) (end : Bool)
         → readCall s piece end masks message control output ≡ read (turn Closed 0 (withState (v .session) 4)) message control (v .output)) → Way
     taking : Passed s (masks .first) message control output → closes ≡ false
         → ((piece : List ℕ) (end : Bool)
@@ -136,8 +137,8 @@ module _ (s : Session) (masks : Masks) (message control output : List ℕ) where
   way =
       by-test (eqb n 0)
       (λ t.
-      by-test closes (λ u. closed (λ piece end. rw (t, u)))
-      (λ u. taking (read-passed s (masks .first) message control output (eqb-true n 0 t)) u (λ piece end. rw (t, u))))
+      let passed : Passed s (masks .first) message control output = read-passed s (masks .first) message control output (eqb-true n 0 t) in
+      by-test closes (λ u. closed passed u (λ piece end. rw (t, u))) (λ u. taking passed u (λ piece end. rw (t, u))))
       (λ t. refused n (λ piece end. rw t))
 
 -- ---- how many bytes a call takes, and what an answer that is not final leaves
@@ -198,7 +199,7 @@ module _ (s : Session) (masks : Masks) (message control output : List ℕ) (piec
     where
       go : Way s masks message control output → call .turn .taken ≤ length piece
       go (refused n e) = rw (e piece end) (omega arith)
-      go (closed e) = rw (e piece end) (omega arith)
+      go (closed passed over e) = rw (e piece end) (omega arith)
       go (taking p c e) =
           rw (e piece end)
           (omega (arith, flagged-taken end d (x .taken), feed-taken (u .settings) (u .state) (after (settle (u .settings) (u .state) (world (u .incoming) message control More)) 0) piece))
@@ -224,7 +225,7 @@ module _ (s : Session) (masks : Masks) (message control output : List ℕ) (piec
       where
         go : Way s masks message control output → Waits (call .turn .session .settings) (call .turn .session .incoming)
         go (refused n e) = no-final (e piece end) refl
-        go (closed e) = no-final (e piece end) refl
+        go (closed passed over e) = no-final (e piece end) refl
         go (taking p c e) =
             let f = on-there (e piece end) in
             let y : FineWorld (u .settings) (x .world) = fed-fine u piece message control (move-shaped s (masks .first) output sh) (move-range s (masks .first) output (p .ranged)) in
@@ -250,7 +251,7 @@ module _ (s : Session) (masks : Masks) (message control output : List ℕ) (piec
 
         go : Way s masks message control output → 0 < call .turn .taken
         go (refused n e) = no-final final (e piece end) refl
-        go (closed e) = no-final final (e piece end) refl
+        go (closed passed over e) = no-final final (e piece end) refl
         go (taking p c e) =
             let f = on-there final (e piece end) in
             let j : Session = withIncoming u (x .world .incoming) in
@@ -275,7 +276,7 @@ ended-answers s masks message control output piece = go (way s masks message con
   where
     go : Way s masks message control output → isMore (readCall s piece true masks message control output .turn .answer) ≡ false
     go (refused n e) = ap (λ (r : Read). isMore (r .turn .answer)) (e piece true)
-    go (closed e) = ap (λ (r : Read). isMore (r .turn .answer)) (e piece true)
+    go (closed passed over e) = ap (λ (r : Read). isMore (r .turn .answer)) (e piece true)
     go (taking p c e) = ap (λ (r : Read). isMore (r .turn .answer)) (e piece true) ∙ flagged-ends _ _
 
 -- ---- the same call with more bytes behind the piece
@@ -292,7 +293,7 @@ module _ (s : Session) (masks : Masks) (message control output : List ℕ) (xs y
     where
       go : Way s masks message control output → long ≡ short
       go (refused n e) = e (xs ++ ys) end ∙ sym (e xs false)
-      go (closed e) = e (xs ++ ys) end ∙ sym (e xs false)
+      go (closed passed over e) = e (xs ++ ys) end ∙ sym (e xs false)
       go (taking p c e) =
           let v : Out = moveReply s (masks .first) output in
           let u : Session = v .session in
@@ -428,7 +429,7 @@ module _ (s : Session) (masks : Masks) (message control output : List ℕ) (xs y
 
       go : Way s masks message control output → Late short long xs ys end others
       go (refused n e) = never h (ap (λ (r : Read). isMore (r .turn .answer)) (e xs false))
-      go (closed e) = never h (ap (λ (r : Read). isMore (r .turn .answer)) (e xs false))
+      go (closed passed over e) = never h (ap (λ (r : Read). isMore (r .turn .answer)) (e xs false))
       go (taking p c e) =
           let x : At = fed u xs message control in
           let j : Session = withIncoming u (x .world .incoming) in
