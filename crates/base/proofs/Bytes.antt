@@ -1,13 +1,13 @@
 -- Laws of runs of bytes and of big-endian numbers.
 use mathlib.Core.Path.{_≡_, refl, sym, ap, ap₂, _∙_}
 use mathlib.Core.List.{List, [], _∷_, _++_}
-use Prim.Native.Nat.{ℕ, zero, suc, _+_, _*_, _/_, _%_, _^_, _<_, _≤_}
+use Prim.Native.Nat.{ℕ, zero, suc, _+_, _-_, _*_, _/_, _%_, _^_, _<_, _≤_}
 use native.Mathlib.Nat.{mod-one, pow-suc, mul-comm, mul-assoc, zero-lt-suc, pow-le-pow-right}
 use native.Mathlib.Numerals.{add-one, towards-suc}
 use native.Mathlib.Omega.{arith}
 use lib.Arith.{mod-mul}
 use lib.ListN.{length, getD, take, drop, length-append, length-drop}
-use lib.Seq.{take-suc, drop-cons, getD-drop, getD-take, length-take-le, take-at, drop-at}
+use lib.Seq.{take-nil, take-suc, drop-cons, getD-drop, getD-take, length-take-le, take-at, drop-at}
 use lib.Dec.{lit<}
 use Rattle.base.specs.Bytes.{part, fromBig, toBig}
 
@@ -38,6 +38,17 @@ part-four at s h =
       drop-cons s (suc (suc at)) 0 (omega arith),
       drop-cons s (suc (suc (suc at))) 0 (omega arith),
     ))
+
+-- the rest of a run, whichever is cut off first
+pub take-drop : (k left : ℕ) (rest : List ℕ) → k ≤ left → drop k (take left rest) ≡ take (left - k) (drop k rest)
+take-drop zero left rest h =
+    let e : left ≡ left - 0 = omega arith in
+    ap (λ (n : ℕ). take n rest) e
+take-drop (suc k) zero rest h = absurd (omega arith)
+take-drop (suc k) (suc left) [] h = sym (take-nil (suc left - suc k))
+take-drop (suc k) (suc left) (b ∷ rest) h =
+    let e : left - k ≡ suc left - suc k = omega arith in
+    take-drop k left rest (omega arith) ∙ ap (λ (n : ℕ). take n (drop k rest)) e
 
 -- the run that stands between two others
 pub part-between : (p s q : List ℕ) (at n : ℕ) → length p ≡ at → length s ≡ n → part at n (p ++ (s ++ q)) ≡ s

@@ -145,7 +145,7 @@ module _ (s : Session) (masks : Masks) (m c o : List ℕ) where
           ∙ e
 
 -- ---- what a data event leaves
-data-answers : (d : DataKind) (n : ℕ) → isMore (dataEvent d n) ≡ false
+pub data-answers : (d : DataKind) (n : ℕ) → isMore (dataEvent d n) ≡ false
 data-answers Continue n = refl
 data-answers Text n = refl
 data-answers Binary n = refl
@@ -161,19 +161,19 @@ data-concluded Binary n true taken s m c o = refl
 data-concluded Binary n false taken s m c o = refl
 
 -- opcodes are numbers below 16
-data-number : (d : DataKind) → opcodeOf (opcodeNumber (Data d) % 16) ≡ Data d
+pub data-number : (d : DataKind) → opcodeOf (opcodeNumber (Data d) % 16) ≡ Data d
 unfolding opcodeOf valueAt
 data-number Continue = refl
 data-number Text = refl
 data-number Binary = refl
 
-control-number : (k : ControlKind) → opcodeOf (opcodeNumber (Control k) % 16) ≡ Control k
+pub control-number : (k : ControlKind) → opcodeOf (opcodeNumber (Control k) % 16) ≡ Control k
 unfolding opcodeOf valueAt
 control-number Close = refl
 control-number Ping = refl
 control-number Pong = refl
 
-control-answers : (k : ControlKind) (n : ℕ) → isMore (controlEvent k n) ≡ false
+pub control-answers : (k : ControlKind) (n : ℕ) → isMore (controlEvent k n) ≡ false
 control-answers Close n = refl
 control-answers Ping n = refl
 control-answers Pong n = refl

@@ -123,7 +123,7 @@ valid-control f j c Close o v = rw (o, v refl)
 valid-control f j c Ping o v = rw o
 valid-control f j c Pong o v = rw o
 
-front-laid : (c p : List ℕ) → length p ≤ length c → take (length p) (laid c 0 p) ≡ p
+pub front-laid : (c p : List ℕ) → length p ≤ length c → take (length p) (laid c 0 p) ≡ p
 unfolding part
 front-laid c p h = laid-part c 0 p (omega arith)
 

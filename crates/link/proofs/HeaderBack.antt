@@ -43,6 +43,10 @@ keep-count : (i : Incoming) (b : ℕ) → keep i b .kept ≡ i .kept + 1
 unfolding keep
 keep-count i b = refl
 
+pub header-kept : (i : Incoming) (bs : List ℕ) → length (keepAll i bs .header) ≡ length (i .header)
+header-kept i [] = refl
+header-kept i (b ∷ bs) = header-kept (keep i b) bs ∙ keep-size i b
+
 pub kept-all : (i : Incoming) (bs : List ℕ) → i .kept + length bs ≤ length (i .header) → kept (keepAll i bs) ≡ kept i ++ bs
 kept-all i [] h = sym (append-nil (kept i))
 kept-all i (b ∷ bs) h =

@@ -3,3 +3,10 @@ pub mod FrameBack
 pub mod CallBack
 pub mod Sent
 pub mod ReadBack
+pub mod Frames
+pub mod Overlap
+pub mod FrameRead
+pub mod Direction
+pub mod Puts
+pub mod Sends
+pub mod Takes

@@ -39,12 +39,12 @@ use Rattle.link.proofs.HeaderBack.{keepAll}
 use Rattle.link.proofs.Sent.{not-false, sent-puts, put-bytes, not-bad}
 
 -- no close of one byte can be asked for
-not-one : (closing : Closing) (reason : List ℕ) → length (closingBytes closing reason) ≡ 1 → ⊥
+pub not-one : (closing : Closing) (reason : List ℕ) → length (closingBytes closing reason) ≡ 1 → ⊥
 unfolding closeBytes toBig
 not-one Empty reason h = absurd (omega arith)
 not-one (Code n) reason h = absurd (omega arith)
 
-holds : (p : List ℕ) → isWhole (progressAfter 0 (drop 2 p)) ≡ true → reasonHolds p ≡ true
+pub holds : (p : List ℕ) → isWhole (progressAfter 0 (drop 2 p)) ≡ true → reasonHolds p ≡ true
 unfolding reasonHolds
 holds p h = h
 

@@ -17,7 +17,7 @@ use Rattle.base.proofs.Choice.{by-test}
 use Rattle.base.proofs.Stores.{length-laid, laid-append, laid-part}
 use Rattle.base.proofs.Tests.{first-clear}
 use Rattle.coding.specs.declared.opcode.OpCode.{OpCode}
-use Rattle.session.specs.Calls.{outputShort, Sending, sendTests, sendFrame}
+use Rattle.session.specs.Calls.{outputShort, Sending, sending, sendTests, sendFrame}
 use Rattle.session.specs.declared.Masks.{Masks}
 use Rattle.session.specs.declared.Sent.{Sent}
 use Rattle.session.specs.declared.Sent.the-variants.{Done, Refused}
@@ -84,6 +84,16 @@ move-puts s mask output held bytes o e h k =
       room = subst (λ (l : List ℕ). held + length l ≤ length o) (sym none) k;
     }))
 
+-- ---- a call that passes the tests is made in Active, with nothing that 18 names
+pub sendable : (s : Session) (output : List ℕ) (bad : Bool) → firstOf (sendTests s output bad) ≡ 0 → (isActive (s .state) ≡ true) × (bad ≡ false)
+unfolding sendTests
+sendable s output bad h =
+    let a = first-clear 20 (not (inRange s)) _ (λ e. absurd (omega arith)) h .1 in
+    let b = first-clear 1 (outputShort s output) _ (λ e. absurd (omega arith)) a .1 in
+    let c = first-clear 2 (isTerminated (s .state)) _ (λ e. absurd (omega arith)) b .1 in
+    let d = first-clear 17 (not (isActive (s .state))) _ (λ e. absurd (omega arith)) c in
+    (not-false (isActive (s .state)) (d .0), first-clear 18 bad [] (λ e. absurd (omega arith)) (d .1) .0)
+
 -- ---- an accepted call
 module _ (s : Session) (state : ℕ) (op : OpCode) (bad : Bool) (p : List ℕ) (masks : Masks) (output : List ℕ) where
   abbrev bytes : List ℕ
@@ -122,13 +132,7 @@ module _ (s : Session) (state : ℕ) (op : OpCode) (bad : Bool) (p : List ℕ) (
 
   -- what was to be sent is not bad: 18 was not given
   pub not-bad : x .handed .sent ≡ Done → bad ≡ false
-  unfolding sendTests
-  not-bad h =
-      let a = first-clear 20 (not (inRange s)) _ (λ e. absurd (omega arith)) (none-early (none-owed h)) .1 in
-      let b = first-clear 1 (outputShort s output) _ (λ e. absurd (omega arith)) a .1 in
-      let c = first-clear 2 (isTerminated (s .state)) _ (λ e. absurd (omega arith)) b .1 in
-      let d = first-clear 17 (not (isActive (s .state))) _ (λ e. absurd (omega arith)) c .1 in
-      first-clear 18 bad [] (λ e. absurd (omega arith)) d .0
+  not-bad h = sendable s output bad (none-early (none-owed h)) .1
 
   -- the frame is in the output, behind what was held, and the state is the one given
   pub sent-puts : x .handed .sent ≡ Done → Put (s .held) output bytes (replyFrame s (masks .second)) (record { session = x .handed .session; output = x .output })
@@ -137,6 +141,27 @@ module _ (s : Session) (state : ℕ) (op : OpCode) (bad : Bool) (p : List ℕ) (
       let z = none-owed h in
       rw (eq-eqb number 0 z)
       (move-puts (withHeld (withState s state) (s .held + length bytes)) (masks .second) (laid output (s .held) bytes) (s .held) bytes output refl refl (has-room z))
+
+  -- a call is refused and nothing changes, or its frame is put out and then the waiting reply moves
+  abbrev puts : Out
+  puts = appended (withState s state) output bytes
+
+  abbrev moved : Out
+  moved = moveReply (puts .session) (masks .second) (puts .output)
+
+  pub data Way : Type 0 where
+    refused : (k : ℕ) → x ≡ sending (Refused k) s output → Way
+    goes-out : isActive (s .state) ≡ true → bad ≡ false → s .held + length bytes ≤ length output → x ≡ sending Done (moved .session) (moved .output) → Way
+
+  pub way : Way
+  unfolding sendFrame
+  way =
+      by-test (eqb number 0)
+      (λ t.
+      let z : number ≡ 0 = eqb-true number 0 t in
+      let fine = sendable s output bad (none-early z) in
+      goes-out (fine .0) (fine .1) (has-room z) (rw t))
+      (λ t. refused number (rw t))
 
 -- ---- the frame's bytes can be read off the store
 pub put-bytes : (held : ℕ) (output bytes : List ℕ) {reply : List ℕ} (x : Out) → Put held output bytes reply x → part held (length bytes) (x .output) ≡ bytes

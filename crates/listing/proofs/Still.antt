@@ -5,9 +5,10 @@ use mathlib.Core.List.{List, [], _∷_, _++_, append-assoc}
 use Prim.Native.Nat.{ℕ, zero, suc, _+_, _-_, _≤_}
 use native.Mathlib.Omega.{arith}
 use lib.ListN.{take, drop}
-use lib.Seq.{take-nil, drop-drop}
+use lib.Seq.{drop-drop}
 use Rattle.base.specs.Bytes.{part}
 use Rattle.base.specs.Table.{pick}
+use Rattle.base.proofs.Bytes.{take-drop}
 use Rattle.base.proofs.Choice.{by-test}
 use Rattle.session.specs.Calls.{Read}
 use Rattle.session.specs.declared.Answer.{Answer}
@@ -70,17 +71,6 @@ pub wrong-says : (f : Found) (t : Tape) (place : ℕ) (rest : List ℕ) → foun
 wrong-says f t place rest e h = bad-says t place rest (ap (λ (x : Found). nextOf x t place rest) e ∙ h)
 
 -- ---- a call
--- the rest of a piece, whichever is cut off first
-take-drop : (k left : ℕ) (rest : List ℕ) → k ≤ left → drop k (take left rest) ≡ take (left - k) (drop k rest)
-take-drop zero left rest h =
-    let e : left ≡ left - 0 = omega arith in
-    ap (λ (n : ℕ). take n rest) e
-take-drop (suc k) zero rest h = absurd (omega arith)
-take-drop (suc k) (suc left) [] h = sym (take-nil (suc left - suc k))
-take-drop (suc k) (suc left) (b ∷ rest) h =
-    let e : left - k ≡ suc left - suc k = omega arith in
-    take-drop k left rest (omega arith) ∙ ap (λ (n : ℕ). take n (drop k rest)) e
-
 module _ (t : Tape) (left : ℕ) (end : Bool) (place : ℕ) (rest : List ℕ) where
   abbrev piece : List ℕ
   piece = take left rest
