@@ -3,6 +3,7 @@ use mathlib.Core.Path.{_≡_, refl, sym, ap, _∙_}
 use mathlib.Core.Bool.{Bool, true, false, not}
 use mathlib.Core.List.{List, [], _∷_, _++_, append-assoc, append-nil}
 use Prim.Native.Nat.{ℕ, _+_, _≤_}
+use lib.Dec.{eqb}
 use lib.ListN.{length, take}
 use Rattle.coding.specs.declared.opcode.Control.{Control as ControlKind}
 use Rattle.coding.specs.declared.opcode.Control.the-variants.{Close, Ping, Pong}
@@ -43,6 +44,13 @@ isOver byUs = false
 isOver byPeer = false
 isOver acked = false
 isOver over = true
+
+pub over-number : (p : Phase) → isOver p ≡ eqb (number p) 4
+over-number active = refl
+over-number byUs = refl
+over-number byPeer = refl
+over-number acked = refl
+over-number over = refl
 
 -- how an end's state and waiting reply go with whether a close is among what it put out
 abbrev pub Link : Phase → Waiting → Bool → Type 0

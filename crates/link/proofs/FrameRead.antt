@@ -182,7 +182,7 @@ pub record Within (g : Settings) (part piece : List ℕ) (x : At) : Type 0 where
   pub spot : Spot g (part ++ piece) incoming message control
 
 -- or the first frame that is not read yet ends in it
-pub record Ends (client : Bool) (part piece : List ℕ) (rest' : List Frame) (x : At) : Type 0 where
+pub record Ends (client : Bool) (part piece more : List ℕ) (rest' : List Frame) (x : At) : Type 0 where
   pub frame : Frame
   pub frames : List Frame
   pub is : rest' ≡ frame ∷ frames
@@ -190,6 +190,7 @@ pub record Ends (client : Bool) (part piece : List ℕ) (rest' : List Frame) (x 
   pub back : List ℕ
   pub split : piece ≡ front ++ back
   pub whole : part ++ front ≡ bytesOf client frame
+  pub on : back ++ more ≡ wires client frames
   pub left : World
   pub between : Between (left .incoming)
   pub new : left .incoming .begun ≡ false
@@ -197,9 +198,9 @@ pub record Ends (client : Bool) (part piece : List ℕ) (rest' : List Frame) (x 
   pub payload : shown (eventOf (frame .op) (length (frame .load))) (left .message) (left .control) ≡ frame .load
   pub comes : x ≡ after left (length front)
 
-pub data Came (g : Settings) (client : Bool) (part piece : List ℕ) (rest' : List Frame) (x : At) : Type 0 where
-  within : Within g part piece x → Came g client part piece rest' x
-  ends : Ends client part piece rest' x → Came g client part piece rest' x
+pub data Came (g : Settings) (client : Bool) (part piece more : List ℕ) (rest' : List Frame) (x : At) : Type 0 where
+  within : Within g part piece x → Came g client part piece more rest' x
+  ends : Ends client part piece more rest' x → Came g client part piece more rest' x
 
 module _ (g : Settings) (client : Bool) (toward : Toward client g) (part : List ℕ) (i : Incoming) (m c : List ℕ) (spot : Spot g part i m c) where
   abbrev first : At
@@ -278,8 +279,9 @@ module _ (g : Settings) (client : Bool) (toward : Toward client g) (part : List 
           }
 
       -- the frame's last bytes are the piece's first
-      at-end : (front back : List ℕ) → part ++ front ≡ all → front ++ back ≡ piece → Ends client part piece (f ∷ fs) now
-      at-end front back e d =
+      at-end : (front back : List ℕ) → part ++ front ≡ all → front ++ back ≡ piece → wires client fs ≡ back ++ more
+          → Ends client part piece more (f ∷ fs) now
+      at-end front back e d b =
           let left : after (feed g 0 here front .world) (length part + feed g 0 here front .taken) ≡ after (read .left) (length all) =
           sym (on front) ∙ ap (feed g 0 first) e ∙ read .fed in
           let count : feed g 0 here front .taken ≡ length front =
@@ -294,6 +296,7 @@ module _ (g : Settings) (client : Bool) (toward : Toward client g) (part : List 
             back = back;
             split = sym d;
             whole = e;
+            on = sym b;
             left = read .left;
             between = read .between;
             new = read .new;
@@ -306,18 +309,31 @@ module _ (g : Settings) (client : Bool) (toward : Toward client g) (part : List 
             ∙ feed-stopped g 0 (after (read .left) (length front)) back (read .answers);
           }
 
-      through : length all ≤ length part + length piece → Ends client part piece (f ∷ fs) now
+      through : length all ≤ length part + length piece → Ends client part piece more (f ∷ fs) now
       through h =
           let o = overlap part (piece ++ more) all (wires client fs) flow (omega (arith, part-less (piece ++ more) (wires client fs) flow)) in
           let long : length all ≡ length part + length (o .middle) = ap length (sym (o .front)) ∙ length-append part (o .middle) in
           let p = overlap (o .middle) (wires client fs) piece more (sym (o .back)) (omega arith) in
-          at-end (o .middle) (p .middle) (o .front) (p .front)
+          at-end (o .middle) (p .middle) (o .front) (p .front) (p .back)
 
-      came-frame : Came g client part piece (f ∷ fs) now
+      came-frame : Came g client part piece more (f ∷ fs) now
       came-frame =
           by-test (ltb (length part + length piece) (length all))
           (λ t. within (inside (ltb-true (length part + length piece) (length all) t)))
           (λ t. ends (through (ltb-false (length part + length piece) (length all) t)))
+
+  -- where all that was put out and not read before has come, and nothing of it is whole, there is nothing of it
+  pub spot-whole : (rest' : List Frame) → AllValid g rest' → part ≡ wires client rest' → rest' ≡ []
+  unfolding wires
+  spot-whole [] v e = refl
+  spot-whole (f ∷ fs) v e =
+      absurd
+      (omega (
+        arith,
+        part-less f (v .0) [] (wires client fs) (append-nil part ∙ e),
+        ap length e,
+        length-append (bytesOf client f) (wires client fs),
+      ))
 
   -- ---- a piece of what was put out, in a session that waits for it
   module _ (piece more : List ℕ) where
@@ -334,7 +350,7 @@ module _ (g : Settings) (client : Bool) (toward : Toward client g) (part : List 
           spot = subst (λ (l : List ℕ). Spot g l i m c) (sym (append-nil part) ∙ ap (λ (l : List ℕ). part ++ l) (sym none)) spot;
         }
 
-    pub came : (rest' : List Frame) → AllValid g rest' → part ++ (piece ++ more) ≡ wires client rest' → Came g client part piece rest' (feed g 0 here piece)
+    pub came : (rest' : List Frame) → AllValid g rest' → part ++ (piece ++ more) ≡ wires client rest' → Came g client part piece more rest' (feed g 0 here piece)
     unfolding wires
     came [] v e = within (came-none e 0)
     came (f ∷ fs) v e = came-frame f (v .0) fs piece more e

@@ -118,6 +118,10 @@ pub valid-last : (g : Settings) (a : List Frame) (f : Frame) → AllValid g a �
 valid-last g [] f v w = (w, tt)
 valid-last g (x ∷ a) f v w = (v .0, valid-last g a f (v .1) w)
 
+pub valid-front : (g : Settings) (a b : List Frame) → AllValid g (a ++ b) → AllValid g a
+valid-front g [] b v = tt
+valid-front g (x ∷ a) b v = (v .0, valid-front g a b (v .1))
+
 pub valid-behind : (g : Settings) (a b : List Frame) → AllValid g (a ++ b) → AllValid g b
 valid-behind g [] b v = v
 valid-behind g (x ∷ a) b v = valid-behind g a b (v .1)

@@ -10,3 +10,5 @@ pub mod Direction
 pub mod Puts
 pub mod Sends
 pub mod Takes
+pub mod ReadSteps
+pub mod Events

@@ -35,7 +35,7 @@ use Rattle.steady.proofs.Parts.{range-state, range-reply}
 use Rattle.utf8.specs.Progress.{progressAfter, isWhole}
 use Rattle.link.specs.Demand.{FitsOther, NoneWaits}
 use Rattle.link.specs.System.{Item, item, End, Answers, Side, Keys, four, masks, sent, textTo, binaryTo, pingTo, pongTo, closeTo}
-use Rattle.link.proofs.Direction.{Phase, active, byUs, byPeer, acked, over, number, isOver, Link, Heard, loadOf, SoundClose, Sound, Origin, caller, Knows, FrameKnows, Kept, Dir, Sender, Inv}
+use Rattle.link.proofs.Direction.{Phase, active, byUs, byPeer, acked, over, number, isOver, over-number, Link, Heard, loadOf, SoundClose, Sound, Origin, caller, Knows, FrameKnows, Kept, Dir, Sender, Inv}
 use Rattle.link.proofs.FrameBack.{front-laid}
 use Rattle.link.proofs.Frames.{Frame, bytesOf, nothing, itemsOf, LoadFits, Valid, hasClose}
 use Rattle.link.proofs.Puts.{outEnd, atOut, turned, mk-live, put-inv, move-inv}
@@ -49,13 +49,6 @@ active-is byUs e = never e refl
 active-is byPeer e = never e refl
 active-is acked e = never e refl
 active-is over e = never e refl
-
-over-number : (p : Phase) → isOver p ≡ eqb (number p) 4
-over-number active = refl
-over-number byUs = refl
-over-number byPeer = refl
-over-number acked = refl
-over-number over = refl
 
 pub lives-by : (l r : Side) (v : Inv l r) (n : ℕ) → l .end .session .state ≡ n → eqb n 4 ≡ false → isOver (v .p) ≡ false
 lives-by l r v n e h = over-number (v .p) ∙ ap (λ (k : ℕ). eqb k 4) (sym (v .is-p) ∙ e) ∙ h

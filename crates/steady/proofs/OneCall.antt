@@ -57,7 +57,7 @@ outcome-later s end output w n k =
     by-test (both end (isMore (d .answer))) (λ t. rw t) (λ t. rw t)
 
 -- an answer other than more does not look at the flag
-flagged-answered : (end : Bool) (d : Concluded) (n : ℕ) → isMore (d .answer) ≡ false → flagged end d n ≡ turn (d .answer) n (d .session)
+pub flagged-answered : (end : Bool) (d : Concluded) (n : ℕ) → isMore (d .answer) ≡ false → flagged end d n ≡ turn (d .answer) n (d .session)
 unfolding flagged
 flagged-answered end d n h = rw (h, both-none end)
 
@@ -75,7 +75,7 @@ close-more : (s : Session) (control : List ℕ) (n : ℕ) → isMore (closeCame 
 unfolding closeCame
 close-more s control n = by-test (isActive (s .state)) (λ t. rw t) (λ t. rw t)
 
-conclude-more : (a : Answer) (s : Session) (control : List ℕ) → isMore (conclude a s control .answer) ≡ isMore a
+pub conclude-more : (a : Answer) (s : Session) (control : List ℕ) → isMore (conclude a s control .answer) ≡ isMore a
 unfolding pingCame
 conclude-more More s control = refl
 conclude-more (Text n) s control = refl

@@ -188,7 +188,7 @@ module _ (s : Session) (piece : List ℕ) (end : Bool) (masks : Masks) (message 
       let moved : u .session .settings ≡ s .settings = by-move (λ t. t .settings ≡ s .settings) s (masks .first) output (λ k. refl) refl in
       by-test (eqb n 0) (λ t. rw t (on .settings ∙ moved)) (λ t. rw t)
 
-  read-room : RoomFor s message control output → RoomFor (r .turn .session) (r .message) (r .control) (r .output)
+  pub read-room : RoomFor s message control output → RoomFor (r .turn .session) (r .message) (r .control) (r .output)
   unfolding readCall
   read-room a =
       let limit : u .session .settings ≡ s .settings = by-move (λ t. t .settings ≡ s .settings) s (masks .first) output (λ k. refl) refl in
