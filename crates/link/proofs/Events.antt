@@ -19,7 +19,7 @@ use Rattle.coding.specs.declared.opcode.Data.the-variants.{Continue, Text as Te
 use Rattle.coding.specs.declared.opcode.OpCode.{OpCode}
 use Rattle.coding.specs.declared.opcode.OpCode.the-variants.{Data, Control, Reserved}
 use Rattle.frame.specs.Close.{closeOf, closeBytes, violation}
-use Rattle.session.specs.Answers.{shown}
+use Rattle.session.specs.Answers.{kind, shown}
 use Rattle.session.specs.Calls.{Read, read, turn, flagged}
 use Rattle.session.specs.declared.Answer.{Answer}
 use Rattle.session.specs.declared.Answer.the-variants.{More, Text, Binary, Ping, Pong, Close, Closed, Refused}
@@ -35,7 +35,6 @@ use Rattle.session.specs.Replies.{replyOf, withPong, codeAllowed, shownLength, 
 use Rattle.session.specs.Session.{isServer, isClient, isActive, isClosedByUs, withState, withIncoming, withReply}
 use Rattle.steady.proofs.Frames.{refusalOf, FineWorld}
 use Rattle.steady.proofs.Headers.{Waits, never}
-use Rattle.steady.proofs.Moves.{conclude-number}
 use Rattle.steady.proofs.OneCall.{outcome, flagged-answered, conclude-more}
 use Rattle.utf8.specs.Progress.{stepped, progressAfter, isWhole}
 use Rattle.link.specs.System.{Item, item, End, Side, counted, isClosed, reader, readFrom}
@@ -83,20 +82,41 @@ open-phase acked c o h e = never h e
 open-phase over c o h e = never refl o
 
 -- an event is no refusal
+data-kind : (d : DataKind) (n : ℕ) → (refusalOf (dataEvent d n) ≡ 0) × (kind (dataEvent d n) ≤ 3)
+data-kind Continue n = (refl, omega arith)
+data-kind TextFrame n = (refl, omega arith)
+data-kind BinaryFrame n = (refl, omega arith)
+
+control-kind : (k : ControlKind) (n : ℕ) → (refusalOf (controlEvent k n) ≡ 0) × (kind (controlEvent k n) ≤ 6)
+control-kind CloseFrame n = (refl, omega arith)
+control-kind PingFrame n = (refl, omega arith)
+control-kind PongFrame n = (refl, omega arith)
+
 unrefused-event : (g : Settings) (op : OpCode) (p : List ℕ) → LoadFits g op p → refusalOf (eventOf op (length p)) ≡ 0
-unrefused-event g (Data d) p h = of-data d
-  where
-    of-data : (d : DataKind) → refusalOf (dataEvent d (length p)) ≡ 0
-    of-data Continue = refl
-    of-data TextFrame = refl
-    of-data BinaryFrame = refl
-unrefused-event g (Control k) p h = of-control k
-  where
-    of-control : (k : ControlKind) → refusalOf (controlEvent k (length p)) ≡ 0
-    of-control CloseFrame = refl
-    of-control PingFrame = refl
-    of-control PongFrame = refl
+unrefused-event g (Data d) p h = data-kind d (length p) .0
+unrefused-event g (Control k) p h = control-kind k (length p) .0
 unrefused-event g (Reserved k) p h = absurd h
+
+unrefused-kind : (g : Settings) (op : OpCode) (p : List ℕ) → LoadFits g op p → kind (eventOf op (length p)) ≡ 8 → ⊥
+unrefused-kind g (Data d) p h e = absurd (omega (arith, data-kind d (length p) .1))
+unrefused-kind g (Control k) p h e = absurd (omega (arith, control-kind k (length p) .1))
+unrefused-kind g (Reserved k) p h e = absurd h
+
+-- what an event leaves is told as that event
+close-kind : (s : Session) (control : List ℕ) (n : ℕ) → kind (closeCame s control n .answer) ≡ 6
+unfolding closeCame
+close-kind s control n = by-test (isActive (s .state)) (λ t. rw t) (λ t. rw t)
+
+conclude-kind : (a : Answer) (s : Session) (control : List ℕ) → kind (conclude a s control .answer) ≡ kind a
+unfolding pingCame
+conclude-kind More s control = refl
+conclude-kind (Text n) s control = refl
+conclude-kind (Binary n) s control = refl
+conclude-kind (Ping n) s control = refl
+conclude-kind (Pong n) s control = refl
+conclude-kind (Close n) s control = close-kind s control n
+conclude-kind Closed s control = refl
+conclude-kind (Refused k) s control = refl
 
 link-acked : (w : Waiting) (c : Bool) → Link byUs w c → Link acked w c
 link-acked NoReply c h = h
@@ -282,9 +302,8 @@ module _ (l r : Side) (v : Inv l r) (lives : isOver (v .p) ≡ false) (n : ℕ)
   event-aim flag = subst Aim (sym (told flag)) (op-aim (f .op) refl (valid-f l r v lives n e .fits) (e .payload))
 
   -- it is no refusal
-  pub event-unrefused : (flag : Bool) → refusalOf (outcome s flag (l .end .output) (come-to l r v lives n) .turn .answer) ≡ 0
-  event-unrefused flag =
+  pub event-kind : (flag : Bool) → kind (outcome s flag (l .end .output) (come-to l r v lives n) .turn .answer) ≡ 8 → ⊥
+  event-kind flag h =
       let a : Answer = eventOf (f .op) size in
-      ap (λ (u : Read). refusalOf (u .turn .answer)) (told flag)
-      ∙ conclude-number a (withIncoming s (e .left .incoming)) c
-      ∙ unrefused-event (s .settings) (f .op) (f .load) (valid-f l r v lives n e .fits)
+      unrefused-kind (s .settings) (f .op) (f .load) (valid-f l r v lives n e .fits)
+      (sym (conclude-kind a (withIncoming s (e .left .incoming)) c) ∙ sym (ap (λ (u : Read). kind (u .turn .answer)) (told flag)) ∙ h)

@@ -12,3 +12,4 @@ pub mod Sends
 pub mod Takes
 pub mod ReadSteps
 pub mod Events
+pub mod ReadAct

@@ -233,7 +233,10 @@ module _ (l r : Side) (v : Inv l r) where
         (settle-still g (s .state) (s .incoming) (l .end .message) (l .end .control) (d .reader .waits))
 
     -- behind a close there is nothing; else the piece is of what was put out
-    pub come : Came g client (d .part) piece more (d .rest) come-to
+    abbrev pub Comes : Type 0
+    Comes = Came g client (d .part) piece more (d .rest) come-to
+
+    pub come : Comes
     unfolding wires
     come =
         by-test (isPeerClosed (s .state))

@@ -1,14 +1,19 @@
 -- What demand 3 supposes, each part beside its words, and what its last sentence speaks of.
 use mathlib.Core.Path.{_≡_}
-use mathlib.Core.Bool.{Bool, true, false}
+use mathlib.Core.Bool.{Bool, true, false, not}
 use mathlib.Core.List.{List, [], _∷_, _++_}
+use mathlib.Core.Logic.{_⊎_}
 use Prim.Native.Nat.{ℕ, _≤_}
 use lib.ListN.{length}
-use Rattle.base.specs.Tests.{either}
+use Rattle.base.specs.Tests.{both, either}
 use Rattle.session.specs.Calls.{Sending, waitsCall}
+use Rattle.session.specs.declared.Answer.{Answer}
+use Rattle.session.specs.declared.Answer.the-variants.{Refused}
 use Rattle.session.specs.Range.{limitsHold}
+use Rattle.session.specs.Replies.{fits, isCloseReply, replyFrame}
+use Rattle.session.specs.Session.{isServer, isTerminated}
 use Rattle.steady.specs.Taking.{isDone}
-use Rattle.link.specs.System.{Item, End, Side, System, Keys, Lends, Act, sendText, sendBinary, sendPing, sendPong, sendClose, takes, reads, cuts, textTo, binaryTo, closeTo, offered, ended, swap, Turn, onLeft, onRight, next}
+use Rattle.link.specs.System.{Item, End, Side, System, Keys, four, Lends, Act, sendText, sendBinary, sendPing, sendPong, sendClose, takes, reads, cuts, textTo, binaryTo, closeTo, offered, ended, swap, Turn, onLeft, onRight, next}
 
 -- ---- the outset
 pub record Fit (g : Lends) : Type 0 where
@@ -54,6 +59,25 @@ AllAllowed s (t ∷ ts) = AllowedTurn s t × AllAllowed (next s t) ts
 pub record FirstOf (handed accepted : List Item) : Type 0 where
   pub others : List Item
   pub joined : handed ++ others ≡ accepted
+
+-- ---- how a read can be refused: by no number but 2, 16 and 19
+-- "a server holding a waiting close" that does not fit (document 01, "One read call", 2)
+abbrev pub closeStuck : End → Keys → Bool
+closeStuck e k =
+    both (isServer (e .session .settings))
+    (both (isCloseReply (e .session .reply .waiting)) (not (fits (e .session .held) (e .output) (replyFrame (e .session) (four (k .first))))))
+
+-- of a read call of x, offered something of y's pipe
+pub record Refusals (x y : Side) (k : Keys) (answer : Answer) : Type 0 where
+  pub only : (n : ℕ) → answer ≡ Refused n → (n ≡ 2) ⊎ ((n ≡ 16) ⊎ (n ≡ 19))
+  -- 2 exactly in a Terminated end
+  pub by-two : answer ≡ Refused 2 → isTerminated (x .end .session .state) ≡ true
+  pub two : isTerminated (x .end .session .state) ≡ true → answer ≡ Refused 2
+  -- 19 exactly where a server's waiting close does not fit
+  pub by-nineteen : answer ≡ Refused 19 → closeStuck (x .end) k ≡ true
+  pub nineteen : closeStuck (x .end) k ≡ true → answer ≡ Refused 19
+  -- 16 only where some pipe was cut
+  pub by-sixteen : answer ≡ Refused 16 → either (x .pipe .cut) (y .pipe .cut) ≡ true
 
 -- ---- "no further read .., offered all that its pipe still holds and the pipe's end once it is there, would change anything": the session is
 -- the same afterwards, and no byte is taken

@@ -45,7 +45,7 @@ module _ (s : Session) (masks : Masks) (message control output piece : List ℕ)
   decided-there = go (way s masks message control output)
     where
       go : Way s masks message control output → readCall s (take (r .turn .taken) piece) end masks message control output ≡ r
-      go (refused n e) = e (take (r .turn .taken) piece) end ∙ sym (e piece end)
+      go (refused n is owed e) = e (take (r .turn .taken) piece) end ∙ sym (e piece end)
       go (closed passed over e) = e (take (r .turn .taken) piece) end ∙ sym (e piece end)
       go (taking p c e) =
           let x : At = fed u piece message control in

@@ -6,7 +6,7 @@ use Prim.Native.Nat.{ℕ, _+_, _<_, _≤_}
 use native.Mathlib.Omega.{arith}
 use lib.Dec.{eqb}
 use lib.ListN.{length}
-use borrow.Author.Tests.{eqb-true, eq-eqb}
+use borrow.Author.Tests.{eqb-true, eqb-false, eq-eqb}
 use Rattle.base.specs.Table.{pick}
 use Rattle.base.specs.Tests.{both, firstOf}
 use Rattle.base.proofs.Choice.{by-test}
@@ -120,7 +120,7 @@ module _ (s : Session) (masks : Masks) (message control output : List ℕ) where
 
   -- it is refused by a test, it is closed, or it takes bytes: for every piece and flag alike
   pub data Way : Type 0 where
-    refused : (n : ℕ)
+    refused : (n : ℕ) → firstOf (readTests s (masks .first) message control output) ≡ n → (n ≡ 0 → ⊥)
         → ((piece : List ℕ) (end : Bool) → readCall s piece end masks message control output ≡ read (turn (Refused n) 0 s) message control output) → Way
     closed : Passed s (masks .first) message control output → closes ≡ true
         → ((piece : List ℕ) (end : Bool)
@@ -139,7 +139,7 @@ module _ (s : Session) (masks : Masks) (message control output : List ℕ) where
       (λ t.
       let passed : Passed s (masks .first) message control output = read-passed s (masks .first) message control output (eqb-true n 0 t) in
       by-test closes (λ u. closed passed u (λ piece end. rw (t, u))) (λ u. taking passed u (λ piece end. rw (t, u))))
-      (λ t. refused n (λ piece end. rw t))
+      (λ t. refused n refl (eqb-false n 0 t) (λ piece end. rw t))
 
 -- ---- how many bytes a call takes, and what an answer that is not final leaves
 flagged-on : (end : Bool) (d : Concluded) (n : ℕ) → isFinal (flagged end d n .answer) ≡ false → flagged end d n ≡ turn (d .answer) n (d .session)
@@ -198,7 +198,7 @@ module _ (s : Session) (masks : Masks) (message control output : List ℕ) (piec
   call-taken = go (way s masks message control output)
     where
       go : Way s masks message control output → call .turn .taken ≤ length piece
-      go (refused n e) = rw (e piece end) (omega arith)
+      go (refused n is owed e) = rw (e piece end) (omega arith)
       go (closed passed over e) = rw (e piece end) (omega arith)
       go (taking p c e) =
           rw (e piece end)
@@ -224,7 +224,7 @@ module _ (s : Session) (masks : Masks) (message control output : List ℕ) (piec
     on-waits sh = go (way s masks message control output)
       where
         go : Way s masks message control output → Waits (call .turn .session .settings) (call .turn .session .incoming)
-        go (refused n e) = no-final (e piece end) refl
+        go (refused n is owed e) = no-final (e piece end) refl
         go (closed passed over e) = no-final (e piece end) refl
         go (taking p c e) =
             let f = on-there (e piece end) in
@@ -250,7 +250,7 @@ module _ (s : Session) (masks : Masks) (message control output : List ℕ) (piec
         final = event-on (call .turn .answer) h
 
         go : Way s masks message control output → 0 < call .turn .taken
-        go (refused n e) = no-final final (e piece end) refl
+        go (refused n is owed e) = no-final final (e piece end) refl
         go (closed passed over e) = no-final final (e piece end) refl
         go (taking p c e) =
             let f = on-there final (e piece end) in
@@ -275,7 +275,7 @@ pub ended-answers : (s : Session) (masks : Masks) (message control output piece 
 ended-answers s masks message control output piece = go (way s masks message control output)
   where
     go : Way s masks message control output → isMore (readCall s piece true masks message control output .turn .answer) ≡ false
-    go (refused n e) = ap (λ (r : Read). isMore (r .turn .answer)) (e piece true)
+    go (refused n is owed e) = ap (λ (r : Read). isMore (r .turn .answer)) (e piece true)
     go (closed passed over e) = ap (λ (r : Read). isMore (r .turn .answer)) (e piece true)
     go (taking p c e) = ap (λ (r : Read). isMore (r .turn .answer)) (e piece true) ∙ flagged-ends _ _
 
@@ -292,7 +292,7 @@ module _ (s : Session) (masks : Masks) (message control output : List ℕ) (xs y
   early h = go (way s masks message control output)
     where
       go : Way s masks message control output → long ≡ short
-      go (refused n e) = e (xs ++ ys) end ∙ sym (e xs false)
+      go (refused n is owed e) = e (xs ++ ys) end ∙ sym (e xs false)
       go (closed passed over e) = e (xs ++ ys) end ∙ sym (e xs false)
       go (taking p c e) =
           let v : Out = moveReply s (masks .first) output in
@@ -428,7 +428,7 @@ module _ (s : Session) (masks : Masks) (message control output : List ℕ) (xs y
       u = moveReply s (masks .first) output .session
 
       go : Way s masks message control output → Late short long xs ys end others
-      go (refused n e) = never h (ap (λ (r : Read). isMore (r .turn .answer)) (e xs false))
+      go (refused n is owed e) = never h (ap (λ (r : Read). isMore (r .turn .answer)) (e xs false))
       go (closed passed over e) = never h (ap (λ (r : Read). isMore (r .turn .answer)) (e xs false))
       go (taking p c e) =
           let x : At = fed u xs message control in
