@@ -13,3 +13,4 @@ pub mod Takes
 pub mod ReadSteps
 pub mod Events
 pub mod ReadAct
+pub mod Theorem

@@ -124,7 +124,7 @@ module _ (l r : Side) (v : Inv l r) (n : ℕ) where
   number = firstOf (takeTests s n o)
 
   -- all that is held is shown
-  shown-held : heldPart s o ≡ heldOf (l .end)
+  pub shown-held : heldPart s o ≡ heldOf (l .end)
   unfolding heldPart heldNumber outputShort firstOf
   shown-held =
       let k = v .kept-l in
