@@ -210,7 +210,7 @@ pub record Inv (l r : Side) : Type 0 where
   pub fin-l : Fin l r p q
   pub fin-r : Fin r l q p
 
-pub inv-swap : (l r : Side) → Inv l r → Inv r l
+abbrev pub inv-swap : (l r : Side) → Inv l r → Inv r l
 inv-swap l r v =
     record {
       p = v .q;

@@ -128,7 +128,7 @@ unfolding part
 front-laid c p h = laid-part c 0 p (omega arith)
 
 -- ---- no bytes, or some
-no-bytes : (p : List ℕ) → length p ≡ 0 → p ≡ []
+pub no-bytes : (p : List ℕ) → length p ≡ 0 → p ≡ []
 no-bytes [] h = refl
 no-bytes (b ∷ p) h = absurd (omega arith)
 

@@ -105,7 +105,7 @@ is-parsed h f = go (eqb (missing h) 0) (headerOf h)
     go true x e = (refl, ap (said x) e)
     go false x e = absurd (subst Told (sym e) tt)
 
-size-least : (masked : Bool) (n : ℕ) → 2 ≤ headerSize masked n
+pub size-least : (masked : Bool) (n : ℕ) → 2 ≤ headerSize masked n
 unfolding headerSize plainSize
 size-least masked n = go (leb n 125) (leb n 65535) (pick masked 4 0)
   where

@@ -13,4 +13,5 @@ pub mod Takes
 pub mod ReadSteps
 pub mod Events
 pub mod ReadAct
+pub mod Rest
 pub mod Theorem

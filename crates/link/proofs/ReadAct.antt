@@ -206,7 +206,7 @@ module _ (l r : Side) (v : Inv l r) (n : ℕ) (want : Bool) (k : Keys) where
   over' = isTerminated (e .session .state)
 
   -- the tests of an end by itself: 2, and then 19
-  tests : firstOf (readTests (e .session) (four (k .first)) (e .message) (e .control) (e .output)) ≡ pick over' 2 (pick stuck 19 0)
+  pub tests : firstOf (readTests (e .session) (four (k .first)) (e .message) (e .control) (e .output)) ≡ pick over' 2 (pick stuck 19 0)
   unfolding readTests firstOf
   tests =
       rw (v .kept-l .ranged, room-stores (e .session) (e .message) (e .control) (e .output) (v .kept-l .room), v .kept-l .unrefused)

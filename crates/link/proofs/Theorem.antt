@@ -20,13 +20,14 @@ use Rattle.session.proofs.InRange.{new-range}
 use Rattle.steady.specs.Shape.{Shaped}
 use Rattle.steady.proofs.Headers.{Waits, never}
 use Rattle.steady.proofs.InRangeStays.{shape-new}
-use Rattle.link.specs.Demand.{Fit, Allowed, AllowedTurn, AllAllowed, FirstOf, Refusals}
+use Rattle.link.specs.Demand.{Fit, Allowed, AllowedTurn, AllAllowed, FirstOf, Refusals, AtRest}
 use Rattle.link.specs.System.{End, Side, System, Keys, Lends, Act, sendText, sendBinary, sendPing, sendPong, sendClose, takes, reads, cuts, readBy, done, swap, Turn, onLeft, onRight, next, run, freshSide, outset}
 use Rattle.link.proofs.Direction.{Phase, active, Kept, heldOf, Dir, Fin, Inv, inv-swap, first-dir, said-dir}
 use Rattle.link.proofs.FrameRead.{Toward, spot-between}
 use Rattle.link.proofs.Frames.{Frame, wires, nothing, told, AllValid}
 use Rattle.link.proofs.HeaderBack.{Between, unread}
 use Rattle.link.proofs.ReadAct.{read-inv, read-refusals}
+use Rattle.link.proofs.Rest.{both-said}
 use Rattle.link.proofs.Sends.{text-inv, binary-inv, ping-inv, pong-inv, close-inv}
 use Rattle.link.proofs.Takes.{take-inv, cut-inv, shown-held}
 
@@ -155,6 +156,20 @@ first-inv c d fit-c fit-d =
       fin-r = record { ends = λ a b e. never e refl };
     }
 
+-- ---- all that an end ever put out: what was taken of its output, and behind it what is held
+pub record WholeFrames (x y : Side) : Type 0 where
+  pub frames : List Frame
+  pub bytes : x .pipe .given ++ heldPart (x .end .session) (x .end .output) ≡ wires (isClient (x .end .session .settings)) frames
+  pub admitted : AllValid (y .end .session .settings) frames
+
+frames-of : (l r : Side) → Inv l r → WholeFrames l r
+frames-of l r v =
+    record {
+      frames = v .lr .frames;
+      bytes = ap (λ (b : List ℕ). l .pipe .given ++ b) (shown-held l r v 0) ∙ v .lr .wire .given;
+      admitted = v .lr .sender .valid;
+    }
+
 -- ---- the demand, of a fresh client and a fresh server, with any limits, settings and stores that fit, and any list of acts that is allowed
 module _ (client server : Lends) (fit-client : Fit client) (fit-server : Fit server) (turns : List Turn) (allowed : AllAllowed (outset client server) turns) where
   abbrev pub now : System
@@ -176,8 +191,17 @@ module _ (client server : Lends) (fit-client : Fit client) (fit-server : Fit ser
       × (now .left .answers .said ≡ true → now .left .answers .handed ≡ now .right .answers .accepted)
   closed-holds-all = (said-dir _ _ _ _ (holds .lr), said-dir _ _ _ _ (holds .rl))
 
+  -- 3. "Where one end's close was accepted, nothing was cut, all output was taken and delivered, and no further read of either end, offered all
+  -- that its pipe still holds and the pipe's end once it is there, would change anything, both have answered "closed"."
+  pub both-closed : AtRest now → (now .left .answers .said ≡ true) × (now .right .answers .said ≡ true)
+  both-closed rest = both-said (now .left) (now .right) holds rest
+
   -- 4. a read of either end, of any number of the next bytes, with or without the flag, and with any masks
   pub refusals : (n : ℕ) (flag : Bool) (k : Keys) → Refusals (now .left) (now .right) k (readBy (now .left) (now .right) n flag k .turn .answer)
       × Refusals (now .right) (now .left) k (readBy (now .right) (now .left) n flag k .turn .answer)
   refusals n flag k =
       (read-refusals (now .left) (now .right) holds n flag k, read-refusals (now .right) (now .left) (inv-swap _ _ holds) n flag k)
+
+  -- all that an end ever put out is whole frames, each of which the other's settings admit
+  pub whole-frames : WholeFrames (now .left) (now .right) × WholeFrames (now .right) (now .left)
+  whole-frames = (frames-of (now .left) (now .right) holds, frames-of (now .right) (now .left) (inv-swap _ _ holds))

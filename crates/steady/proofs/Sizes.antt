@@ -6,7 +6,7 @@ use Prim.Native.Nat.{ℕ, _+_, _-_, _≤_}
 use native.Mathlib.Omega.{arith}
 use lib.Dec.{eqb}
 use lib.ListN.{length, take}
-use borrow.Author.Tests.{le-leb, leb-true}
+use borrow.Author.Tests.{eq-eqb, le-leb, leb-true}
 use Rattle.base.specs.Bytes.{part}
 use Rattle.base.specs.Table.{pick}
 use Rattle.base.specs.Tests.{both, firstOf}
@@ -103,7 +103,7 @@ size-small client n h = rw (le-leb n 125 h) (go client)
     go false = omega arith
 
 -- its frame has at most 131 bytes
-reply-small : (s : Session) (mask : List ℕ) → length mask ≡ 4 → s .reply .length ≤ 125 → length (replyFrame s mask) ≤ 131
+pub reply-small : (s : Session) (mask : List ℕ) → length mask ≡ 4 → s .reply .length ≤ 125 → length (replyFrame s mask) ≤ 131
 unfolding replyFrame
 reply-small s mask e h =
     let p : List ℕ = take (s .reply .length) (s .reply .payload) in
@@ -176,6 +176,11 @@ module _ (s : Session) (piece : List ℕ) (end : Bool) (masks : Masks) (message 
   pub read-sizes : (length (r .message) ≡ length message) × (length (r .control) ≡ length control)
   unfolding readCall
   read-sizes = by-test (eqb n 0) (λ t. rw t (on .message, on .control)) (λ t. rw t (refl, refl))
+
+  -- where no number is owed, what is held is what the reply's move left
+  pub read-held : n ≡ 0 → r .turn .session .held ≡ u .session .held
+  unfolding readCall
+  read-held h = rw (eq-eqb n 0 h) (on .held)
 
   pub read-grows : length (masks .first) ≡ 4 → Short s → r .turn .session .held ≤ s .held + 131
   unfolding readCall
