@@ -15,3 +15,5 @@ pub mod Events
 pub mod ReadAct
 pub mod Rest
 pub mod Theorem
+pub mod Rows
+pub mod Runs
