@@ -6,7 +6,8 @@ use mathlib.Core.Logic.{_⊎_, inl, inr, ⊎-elim}
 use Prim.Native.Nat.{ℕ, _≤_}
 use native.Mathlib.Omega.{arith}
 use lib.Dec.{eqb}
-use lib.ListN.{length, take}
+use lib.ListN.{length, take, length-take}
+use borrow.Author.Tests.{le-ltb}
 use Rattle.base.specs.Bytes.{toBig}
 use Rattle.base.specs.Stores.{laid}
 use Rattle.base.specs.Table.{pick, valueAt}
@@ -19,7 +20,7 @@ use Rattle.coding.specs.declared.opcode.Data.the-variants.{Continue, Text as Te
 use Rattle.coding.specs.declared.opcode.OpCode.{OpCode}
 use Rattle.coding.specs.declared.opcode.OpCode.the-variants.{Data, Control, Reserved}
 use Rattle.frame.specs.Close.{closeOf, closeBytes, violation}
-use Rattle.session.specs.Answers.{kind, shown}
+use Rattle.session.specs.Answers.{kind, value, shown, beyond, partOf}
 use Rattle.session.specs.Calls.{Read, read, turn, flagged}
 use Rattle.session.specs.declared.Answer.{Answer}
 use Rattle.session.specs.declared.Answer.the-variants.{More, Text, Binary, Ping, Pong, Close, Closed, Refused}
@@ -72,6 +73,23 @@ shown-size control n = go (codeAllowed (closeOf (take n control)))
     go : (t : Bool) → length (pick t control (laid control 0 (closeBytes 1002 violation))) ≡ length control
     go true = refl
     go false = length-laid control 0 (closeBytes 1002 violation)
+
+-- ---- the part that an event shows is its payload, where that is all there
+in-store : (store : List ℕ) (n : ℕ) (p : List ℕ) → take n store ≡ p → n ≡ length p → pick (eqb (beyond store n) 0) (take n store) [] ≡ p
+unfolding beyond
+in-store store n p e h =
+    rw (le-ltb (length store) n (omega (arith, ap length e, length-take n store))) e
+
+part-is : (a : Answer) (m c p : List ℕ) → shown a m c ≡ p → value a ≡ length p → partOf a m c ≡ p
+unfolding partOf
+part-is More m c p e h = e
+part-is (Text n) m c p e h = in-store m n p e h
+part-is (Binary n) m c p e h = in-store m n p e h
+part-is (Ping n) m c p e h = in-store c n p e h
+part-is (Pong n) m c p e h = in-store c n p e h
+part-is (Close n) m c p e h = in-store c n p e h
+part-is Closed m c p e h = e
+part-is (Refused n) m c p e h = e
 
 -- ---- the states in which an event may come
 open-phase : (p : Phase) (c : Bool) → isOver p ≡ false → Heard p c → c ≡ false → (p ≡ active) ⊎ (p ≡ byUs)
@@ -169,9 +187,9 @@ module _ (l r : Side) (v : Inv l r) (lives : isOver (v .p) ≡ false) (n : ℕ)
       (subst (Heard (v .p)) (sym (ap isClose is ∙ open')) heard) kept
 
   data-aim : (d : DataKind) → f .op ≡ Data d → LoadFits (s .settings) (Data d) (f .load) → shown (dataEvent d size) m c ≡ f .load → Aim (plain-by (dataEvent d size))
-  data-aim Continue is fits payload kept = quiet (Data Continue) (Binary size) is refl fits refl (ap (λ (p : List ℕ). item 3 p ∷ []) payload) (kept (v .kept-l .unrefused))
-  data-aim TextFrame is fits payload kept = quiet (Data TextFrame) (Text size) is refl fits refl (ap (λ (p : List ℕ). item 2 p ∷ []) payload) (kept (v .kept-l .unrefused))
-  data-aim BinaryFrame is fits payload kept = quiet (Data BinaryFrame) (Binary size) is refl fits refl (ap (λ (p : List ℕ). item 3 p ∷ []) payload) (kept (v .kept-l .unrefused))
+  data-aim Continue is fits payload kept = quiet (Data Continue) (Binary size) is refl fits refl (ap (λ (p : List ℕ). item 3 p ∷ []) (part-is (Binary size) m c (f .load) payload refl)) (kept (v .kept-l .unrefused))
+  data-aim TextFrame is fits payload kept = quiet (Data TextFrame) (Text size) is refl fits refl (ap (λ (p : List ℕ). item 2 p ∷ []) (part-is (Text size) m c (f .load) payload refl)) (kept (v .kept-l .unrefused))
+  data-aim BinaryFrame is fits payload kept = quiet (Data BinaryFrame) (Binary size) is refl fits refl (ap (λ (p : List ℕ). item 3 p ∷ []) (part-is (Binary size) m c (f .load) payload refl)) (kept (v .kept-l .unrefused))
 
   pong-aim : f .op ≡ Control PongFrame → LoadFits (s .settings) (Control PongFrame) (f .load) → Aim (plain-by (Pong size))
   pong-aim is fits kept = quiet (Control PongFrame) (Pong size) is refl fits refl refl (kept (v .kept-l .unrefused))
@@ -188,7 +206,7 @@ module _ (l r : Side) (v : Inv l r) (lives : isOver (v .p) ≡ false) (n : ℕ)
           (pick b (withReply (withIncoming s (e .left .incoming)) (withPong (s .reply) (take size c))) (withIncoming s (e .left .incoming)))) m c (l .end .output)
 
       shows : counted (Ping size) m c ≡ itemsOf nothing true (Control PingFrame) (f .load)
-      shows = ap (λ (p : List ℕ). item 4 p ∷ []) payload
+      shows = ap (λ (p : List ℕ). item 4 p ∷ []) (part-is (Ping size) m c (f .load) payload refl)
 
       in-active' : v .p ≡ active → Aim (answer-with (isActive (s .state)))
       in-active' h =
@@ -210,7 +228,7 @@ module _ (l r : Side) (v : Inv l r) (lives : isOver (v .p) ≡ false) (n : ℕ)
           (subst (λ (w : Waiting). Link active w (hasClose (v .lr .frames))) (sym kind) (a .none))
           (subst (λ (w : Waiting). Sound w (loadOf q)) (sym kind) (omega (arith, ap length load, fits .0)))
           (subst (λ (w : Waiting). Knows w (l .answers .handed ++ counted (Ping size) m c) (loadOf q)) (sym kind)
-          (answers (l .answers .handed) [] (ap (λ (p : List ℕ). l .answers .handed ++ (item 4 p ∷ [])) (load ∙ sym payload))))
+          (answers (l .answers .handed) [] (ap (λ (p : List ℕ). l .answers .handed ++ (item 4 p ∷ [])) (load ∙ sym (part-is (Ping size) m c (f .load) payload refl)))))
           (ap isClose is) (kept (v .kept-l .unrefused)))
 
       by-us : v .p ≡ byUs → Aim (answer-with (isActive (s .state)))

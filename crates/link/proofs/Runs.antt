@@ -13,6 +13,7 @@ use Rattle.coding.specs.Opcodes.{opcodeOf}
 use Rattle.frame.specs.Close.{closeOf, closeBytes, violation}
 use Rattle.frame.specs.Header.{firstOf as firstByteOf, secondOf, extraBytes, lengthOf, sizeBy, missing, headerOf, maskIn, lengthCode, lengthBytes, firstByte, secondByte, headerBytes}
 use Rattle.mask.specs.Mask.{masked}
+use Rattle.session.specs.Answers.{beyond, partOf}
 use Rattle.session.specs.Calls.{noIncoming, emptyReply, fresh, newCall, outputShort, storesShort, readTests, flagged, takeBytes, readOn, readCall, sendTests, sendFrame, textCall, binaryCall, pingCall, closeCall, pongCall, waitsCall, heldNumber, heldPart, takeTests, takeCall}
 use Rattle.session.specs.declared.Answer.the-variants.{More, Text, Binary, Ping, Pong, Close, Closed, Refused}
 use Rattle.session.specs.declared.Closing.the-variants.{Empty, Code}
@@ -245,7 +246,7 @@ pub record AllShown : Type 0 where
   pub refused-calls-rests : AtRest (after refusedCalls)
 
 pub all-shown : AllShown
-unfolding clientCloses serverCloses closesCross cutInHeader cutInPayload characterCut pongWaits pongMoves echoWaits refusedCalls client server start toldAll turnsOf answersOf after leftOf areAllowed isAtRest sent givenBytes taken cutAt ended readBy reader readFrom done next run freshSide outset noIncoming emptyReply fresh newCall outputShort storesShort readTests flagged takeBytes readOn readCall sendTests sendFrame textCall binaryCall pingCall closeCall pongCall waitsCall heldNumber heldPart takeTests takeCall part fromBig toBig laid valueAt firstOf allowed opcodeOf closeOf closeBytes violation firstByteOf secondOf extraBytes lengthOf sizeBy missing headerOf maskIn lengthCode lengthBytes firstByte secondByte headerBytes masked headerWhole frame isText headerTests before progressNow doomTests doom reasonHolds textHolds utfTest verdict limitsHold settingsHold headerHolds countHolds incomingHolds replyHolds numbersHold rangeOf inRange keep plain stored refuse finish rest settle byteIn step feed frameHeader encoded fits replyOf withPong noReply replyFrame appended moveReply shownLength shownControl closeCame pingCame stepped progressAfter isWhole isBeginning
+unfolding clientCloses serverCloses closesCross cutInHeader cutInPayload characterCut pongWaits pongMoves echoWaits refusedCalls client server start toldAll turnsOf answersOf after leftOf areAllowed isAtRest sent givenBytes taken cutAt ended readBy reader readFrom done next run freshSide outset noIncoming emptyReply fresh newCall outputShort storesShort readTests flagged takeBytes readOn readCall sendTests sendFrame textCall binaryCall pingCall closeCall pongCall waitsCall heldNumber heldPart takeTests takeCall beyond partOf part fromBig toBig laid valueAt firstOf allowed opcodeOf closeOf closeBytes violation firstByteOf secondOf extraBytes lengthOf sizeBy missing headerOf maskIn lengthCode lengthBytes firstByte secondByte headerBytes masked headerWhole frame isText headerTests before progressNow doomTests doom reasonHolds textHolds utfTest verdict limitsHold settingsHold headerHolds countHolds incomingHolds replyHolds numbersHold rangeOf inRange keep plain stored refuse finish rest settle byteIn step feed frameHeader encoded fits replyOf withPong noReply replyFrame appended moveReply shownLength shownControl closeCame pingCame stepped progressAfter isWhole isBeginning
 all-shown =
     record {
       client-closes = shows refl refl refl refl;

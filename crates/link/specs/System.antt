@@ -5,9 +5,9 @@ use mathlib.Core.List.{List, [], _∷_, _++_}
 use Prim.Native.Nat.{ℕ}
 use lib.Dec.{eqb, leb}
 use lib.ListN.{length, take, drop}
-use Rattle.base.specs.Table.{pick}
+use Rattle.base.specs.Table.{pick, within}
 use Rattle.base.specs.Tests.{both, either}
-use Rattle.session.specs.Answers.{shown}
+use Rattle.session.specs.Answers.{kind, partOf}
 use Rattle.session.specs.Calls.{Read, readCall, Sending, textCall, binaryCall, pingCall, pongCall, closeCall, heldPart, takeCall, newCall}
 use Rattle.session.specs.declared.Answer.{Answer}
 use Rattle.session.specs.declared.Answer.the-variants.{More, Text, Binary, Ping, Pong, Close, Closed, Refused}
@@ -120,16 +120,9 @@ unfoldable pub readBy : Side → Side → ℕ → Bool → Keys → Read
 readBy x y n flag k =
     offered (x .end) (take n (y .pipe .bytes)) (both flag (both (ended y) (leb (length (y .pipe .bytes)) n))) k
 
--- "handed out": the answer's kind with the part of the store as the call left it
+-- "handed out": the answer's kind with the part that is shown of the store as the call left it. Text, binary and ping are counted
 abbrev pub counted : Answer → List ℕ → List ℕ → List Item
-counted More message control = []
-counted (Text n) message control = item 2 (take n message) ∷ []
-counted (Binary n) message control = item 3 (take n message) ∷ []
-counted (Ping n) message control = item 4 (take n control) ∷ []
-counted (Pong n) message control = []
-counted (Close n) message control = []
-counted Closed message control = []
-counted (Refused k) message control = []
+counted a message control = pick (within 2 4 (kind a)) (item (kind a) (partOf a message control) ∷ []) []
 
 abbrev pub isClosed : Answer → Bool
 isClosed More = false
