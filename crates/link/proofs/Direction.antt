@@ -113,9 +113,9 @@ abbrev pub AllKnow : List Item → List Frame → Type 0
 AllKnow handed [] = Unit {0}
 AllKnow handed (f ∷ fs) = FrameKnows (f .op) handed (f .load) × AllKnow handed fs
 
-pub know-last : (handed : List Item) (fs : List Frame) (f : Frame) → AllKnow handed fs → FrameKnows (f .op) handed (f .load) → AllKnow handed (fs ++ (f ∷ []))
-know-last handed [] f a k = (k, tt)
-know-last handed (x ∷ fs) f a k = (a .0, know-last handed fs f (a .1) k)
+pub know-append : (handed : List Item) (a b : List Frame) → AllKnow handed a → AllKnow handed b → AllKnow handed (a ++ b)
+know-append handed [] b x y = y
+know-append handed (f ∷ a) b x y = (x .0, know-append handed a b (x .1) y)
 
 -- more is handed out, and they stay what they are
 origin-on : (handed more : List Item) (p : List ℕ) → Origin handed p → Origin (handed ++ more) p

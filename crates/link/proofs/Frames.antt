@@ -39,9 +39,9 @@ unfolding wires
 wires-append client [] b = refl
 wires-append client (f ∷ a) b = rw (wires-append client a b) (sym (append-assoc (bytesOf client f) (wires client a) (wires client b)))
 
-pub wires-last : (client : Bool) (a : List Frame) (f : Frame) → wires client (a ++ (f ∷ [])) ≡ wires client a ++ bytesOf client f
+pub one-wire : (client : Bool) (f : Frame) → bytesOf client f ≡ wires client (f ∷ [])
 unfolding wires
-wires-last client a f = wires-append client a (f ∷ []) ∙ ap (λ (l : List ℕ). wires client a ++ l) (append-nil (bytesOf client f))
+one-wire client f = sym (append-nil (bytesOf client f))
 
 -- ---- the messages and pings that frames carry: a fold, since fragments join
 -- what is open of a message: nothing, or its kind and its bytes so far
@@ -114,9 +114,9 @@ abbrev pub AllValid : Settings → List Frame → Type 0
 AllValid g [] = Unit {0}
 AllValid g (f ∷ fs) = Valid g f × AllValid g fs
 
-pub valid-last : (g : Settings) (a : List Frame) (f : Frame) → AllValid g a → Valid g f → AllValid g (a ++ (f ∷ []))
-valid-last g [] f v w = (w, tt)
-valid-last g (x ∷ a) f v w = (v .0, valid-last g a f (v .1) w)
+pub valid-append : (g : Settings) (a b : List Frame) → AllValid g a → AllValid g b → AllValid g (a ++ b)
+valid-append g [] b v w = w
+valid-append g (x ∷ a) b v w = (v .0, valid-append g a b (v .1) w)
 
 pub valid-front : (g : Settings) (a b : List Frame) → AllValid g (a ++ b) → AllValid g a
 valid-front g [] b v = tt
@@ -138,15 +138,14 @@ open-all g [] v = refl
 open-all g (f ∷ fs) v =
     ap (λ (o : Open). openAll o fs) (open-none g (f .op) (f .final) (f .load) (v .0 .whole) (v .0 .fits)) ∙ open-all g fs (v .1)
 
--- what one more frame carries
-pub told-last : (g : Settings) (a : List Frame) (f : Frame) → AllValid g a → f .final ≡ true
-    → told nothing (a ++ (f ∷ [])) ≡ told nothing a ++ itemsOf nothing true (f .op) (f .load)
+-- what more frames carry
+pub told-on : (g : Settings) (a b : List Frame) → AllValid g a → told nothing (a ++ b) ≡ told nothing a ++ told nothing b
+told-on g a b v = told-append nothing a b ∙ ap (λ (o : Open). told nothing a ++ told o b) (open-all g a v)
+
+pub one-told : (f : Frame) → f .final ≡ true → told nothing (f ∷ []) ≡ itemsOf nothing true (f .op) (f .load)
 unfolding told
-told-last g a f v e =
-    told-append nothing a (f ∷ [])
-    ∙ ap (λ (o : Open). told nothing a ++ told o (f ∷ [])) (open-all g a v)
-    ∙ ap (λ (l : List Item). told nothing a ++ l) (append-nil (itemsOf nothing (f .final) (f .op) (f .load)))
-    ∙ ap (λ (t : Bool). told nothing a ++ itemsOf nothing t (f .op) (f .load)) e
+one-told f e =
+    append-nil (itemsOf nothing (f .final) (f .op) (f .load)) ∙ ap (λ (t : Bool). itemsOf nothing t (f .op) (f .load)) e
 
 -- ---- a close among them
 abbrev pub closes : Frame → Bool
@@ -177,10 +176,20 @@ either-right : (a b : Bool) → either a b ≡ false → b ≡ false
 either-right true b e = never refl e
 either-right false b e = e
 
-pub close-last : (a : List Frame) (f : Frame) → hasClose a ≡ false → CloseLast (a ++ (f ∷ []))
-close-last [] f h = ((λ c. refl), tt)
-close-last (x ∷ a) f h =
-    ((λ c. never c (either-left (closes x) (hasClose a) h)), close-last a f (either-right (closes x) (hasClose a) h))
+pub one-close : (f : Frame) → hasClose (f ∷ []) ≡ closes f
+one-close f = go (closes f)
+  where
+    go : (b : Bool) → either b false ≡ b
+    go true = refl
+    go false = refl
+
+pub close-on : (a b : List Frame) → hasClose a ≡ false → CloseLast b → CloseLast (a ++ b)
+close-on [] b h c = c
+close-on (x ∷ a) b h c =
+    ((λ d. never d (either-left (closes x) (hasClose a) h)), close-on a b (either-right (closes x) (hasClose a) h) c)
+
+pub one-last : (f : Frame) → CloseLast (f ∷ [])
+one-last f = ((λ c. refl), tt)
 
 none-behind : (a b : List Frame) → a ++ b ≡ [] → b ≡ []
 none-behind [] b h = h

@@ -30,9 +30,9 @@ use Rattle.steady.proofs.Again.{Room}
 use Rattle.steady.proofs.Headers.{never}
 use Rattle.steady.proofs.Parts.{range-held, range-reply}
 use Rattle.link.specs.System.{Item, End, Pipe, Answers, Side}
-use Rattle.link.proofs.Direction.{Phase, active, byUs, byPeer, acked, over, number, isOver, Link, Heard, loadOf, Sound, Knows, FrameKnows, AllKnow, know-last, Kept, heldOf, Wire, Sender, Reader, Dir, Fin, Inv}
+use Rattle.link.proofs.Direction.{Phase, active, byUs, byPeer, acked, over, number, isOver, Link, Heard, loadOf, Sound, Knows, FrameKnows, AllKnow, know-append, Kept, heldOf, Wire, Sender, Reader, Dir, Fin, Inv}
 use Rattle.link.proofs.FrameRead.{Toward}
-use Rattle.link.proofs.Frames.{Frame, bytesOf, wires, wires-last, nothing, itemsOf, told-last, LoadFits, Valid, valid-last, closes, hasClose, close-append, close-last}
+use Rattle.link.proofs.Frames.{Frame, wires, wires-append, one-wire, nothing, itemsOf, told, told-on, one-told, LoadFits, Valid, AllValid, valid-append, hasClose, one-close, close-append, CloseLast, close-on, one-last}
 
 -- ---- an end of which a call left another session and output
 abbrev pub outEnd : End → Out → End
@@ -78,24 +78,18 @@ mk-live l r l' r' v p is kept a b he hs hl hr o o' =
       };
     }
 
--- ---- a frame is put out
-module _ (l r : Side) (v : Inv l r) (f : Frame) (valid : Valid (r .end .session .settings) f) (none : hasClose (v .lr .frames) ≡ false)
-    (lives : isOver (v .p) ≡ false) (state : ℕ) (reply : Reply) where
+-- ---- frames are put out, by a sending call or of what waited: one of them, or more
+module _ (l r : Side) (v : Inv l r) (fs : List Frame) (bytes : List ℕ) (is-bytes : bytes ≡ wires (isClient (l .end .session .settings)) fs)
+    (valid : AllValid (r .end .session .settings) fs) (last : CloseLast fs) (none : hasClose (v .lr .frames) ≡ false) (lives : isOver (v .p) ≡ false)
+    (state : ℕ) (reply : Reply) where
   abbrev s : Session
   s = l .end .session
-
-  abbrev bytes : List ℕ
-  bytes = bytesOf (isClient (s .settings)) f
 
   abbrev put : End
   put = outEnd (l .end) (appended (turned s state reply) (l .end .output) bytes)
 
-  has-put : hasClose (v .lr .frames ++ (f ∷ [])) ≡ closes f
-  has-put = close-append (v .lr .frames) (f ∷ []) ∙ ap (λ (b : Bool). either b (either (closes f) false)) none ∙ go (closes f)
-    where
-      go : (b : Bool) → either b false ≡ b
-      go true = refl
-      go false = refl
+  has-put : hasClose (v .lr .frames ++ fs) ≡ hasClose fs
+  has-put = close-append (v .lr .frames) fs ∙ ap (λ (b : Bool). either b (hasClose fs)) none
 
   put-kept : inRange (turned s state reply) ≡ true → length (reply .payload) ≡ 125 → s .held + length bytes ≤ length (l .end .output) → Kept put
   unfolding appended
@@ -119,17 +113,8 @@ module _ (l r : Side) (v : Inv l r) (f : Frame) (valid : Valid (r .end .session 
   unfolding appended
   put-held room = held-laid (l .end .output) (s .held) bytes room
 
-  -- the new end and its answers, in the state p
-  abbrev putSide : List Item → Bool → Side
-  putSide accepted asked =
-      record {
-        end = put;
-        pipe = l .pipe;
-        answers = record { accepted = accepted; handed = l .answers .handed; said = l .answers .said; asked = asked };
-      }
-
   put-wire : s .held + length bytes ≤ length (l .end .output)
-      → Wire (isClient (s .settings)) (v .lr .frames ++ (f ∷ [])) (v .lr .rest ++ (f ∷ [])) (v .lr .part) (v .lr .lost) (l .pipe) (heldOf put)
+      → Wire (isClient (s .settings)) (v .lr .frames ++ fs) (v .lr .rest ++ fs) (v .lr .part) (v .lr .lost) (l .pipe) (heldOf put)
   put-wire room =
       let w = v .lr .wire in
       let client : Bool = isClient (s .settings) in
@@ -138,55 +123,56 @@ module _ (l r : Side) (v : Inv l r) (f : Frame) (valid : Valid (r .end .session 
         flow =
         ap (λ (b : List ℕ). v .lr .part ++ (l .pipe .bytes ++ (v .lr .lost ++ b))) (put-held room)
         ∙ sym (shift (v .lr .part) (l .pipe .bytes) (v .lr .lost) held)
-        ∙ ap (λ (b : List ℕ). b ++ bytes) (w .flow)
-        ∙ sym (wires-last client (v .lr .rest) f);
+        ∙ ap₂ (λ (b c : List ℕ). b ++ c) (w .flow) is-bytes
+        ∙ sym (wires-append client (v .lr .rest) fs);
         whole = w .whole;
         given =
         ap (λ (b : List ℕ). l .pipe .given ++ b) (put-held room)
         ∙ sym (append-assoc (l .pipe .given) held bytes)
-        ∙ ap (λ (b : List ℕ). b ++ bytes) (w .given)
-        ∙ sym (wires-last client (v .lr .frames) f);
+        ∙ ap₂ (λ (b c : List ℕ). b ++ c) (w .given) is-bytes
+        ∙ sym (wires-append client (v .lr .frames) fs);
       }
     where
       shift : (a b c d : List ℕ) → (a ++ (b ++ (c ++ d))) ++ bytes ≡ a ++ (b ++ (c ++ (d ++ bytes)))
       shift a b c d = simp append-assoc
 
-  module _ (p : Phase) (is : state ≡ number p) (accepted : List Item) (asked : Bool) (link : Link p (reply .waiting) (closes f))
-      (sound : Sound (reply .waiting) (loadOf reply)) (counted : accepted ≡ l .answers .accepted ++ itemsOf nothing true (f .op) (f .load))
-      (asks : asked ≡ true → closes f ≡ true) (heard : Heard p (hasClose (v .rl .got))) (lives' : isOver p ≡ false)
-      (knows : Knows (reply .waiting) (l .answers .handed) (loadOf reply)) (knows-frame : FrameKnows (f .op) (l .answers .handed) (f .load)) where
-    put-sender : Sender (r .end .session .settings) (isServer (s .settings)) (v .lr .frames ++ (f ∷ [])) p (reply .waiting) (loadOf reply)
-        (record { accepted = accepted; handed = l .answers .handed; said = l .answers .said; asked = asked })
+  -- the new side, in the state p
+  module _ (p : Phase) (is : state ≡ number p) (accepted : List Item) (asked : Bool) (link : Link p (reply .waiting) (hasClose fs))
+      (sound : Sound (reply .waiting) (loadOf reply)) (counted : accepted ≡ l .answers .accepted ++ told nothing fs)
+      (asks : asked ≡ true → hasClose fs ≡ true) (heard : Heard p (hasClose (v .rl .got))) (lives' : isOver p ≡ false)
+      (knows : Knows (reply .waiting) (l .answers .handed) (loadOf reply)) (pongs : AllKnow (l .answers .handed) fs) where
+    abbrev said-now : Answers
+    said-now = record { accepted = accepted; handed = l .answers .handed; said = l .answers .said; asked = asked }
+
+    put-sender : Sender (r .end .session .settings) (isServer (s .settings)) (v .lr .frames ++ fs) p (reply .waiting) (loadOf reply) said-now
     put-sender =
         let x = v .lr .sender in
         record {
-          valid = valid-last (r .end .session .settings) (v .lr .frames) f (x .valid) valid;
-          last = close-last (v .lr .frames) f none;
+          valid = valid-append (r .end .session .settings) (v .lr .frames) fs (x .valid) valid;
+          last = close-on (v .lr .frames) fs none last;
           link = subst (Link p (reply .waiting)) (sym has-put) link;
           sound = sound;
           accepts =
-          counted
-          ∙ ap (λ (a : List Item). a ++ itemsOf nothing true (f .op) (f .load)) (x .accepts)
-          ∙ sym (told-last (r .end .session .settings) (v .lr .frames) f (x .valid) (valid .whole));
+          counted ∙ ap (λ (a : List Item). a ++ told nothing fs) (x .accepts) ∙ sym (told-on (r .end .session .settings) (v .lr .frames) fs (x .valid));
           asks = λ k. has-put ∙ asks k;
           shut = λ a b. never (x .shut a b) none;
           late = λ a b. never b lives';
           knows = knows;
-          pongs = know-last (l .answers .handed) (v .lr .frames) f (x .pongs) knows-frame;
+          pongs = know-append (l .answers .handed) (v .lr .frames) fs (x .pongs) pongs;
         }
 
     pub put-inv : inRange (turned s state reply) ≡ true → length (reply .payload) ≡ 125 → s .held + length bytes ≤ length (l .end .output)
-        → Inv (putSide accepted asked) r
+        → Inv (record { end = put; pipe = l .pipe; answers = said-now }) r
     unfolding appended
     put-inv ranged full room =
-        mk-live l r (putSide accepted asked) r v p is (put-kept ranged full room)
+        mk-live l r (record { end = put; pipe = l .pipe; answers = said-now }) r v p is (put-kept ranged full room)
         (record {
-          frames = v .lr .frames ++ (f ∷ []);
+          frames = v .lr .frames ++ fs;
           got = v .lr .got;
-          rest = v .lr .rest ++ (f ∷ []);
+          rest = v .lr .rest ++ fs;
           part = v .lr .part;
           lost = v .lr .lost;
-          split = sym (append-assoc (v .lr .got) (v .lr .rest) (f ∷ [])) ∙ ap (λ (a : List Frame). a ++ (f ∷ [])) (v .lr .split);
+          split = sym (append-assoc (v .lr .got) (v .lr .rest) fs) ∙ ap (λ (a : List Frame). a ++ fs) (v .lr .split);
           toward = v .lr .toward;
           wire = put-wire room;
           sender = put-sender;
@@ -213,7 +199,7 @@ module _ (l r : Side) (v : Inv l r) (f : Frame) (valid : Valid (r .end .session 
         })
         refl refl refl refl lives lives'
 
--- ---- the waiting reply moves: one frame, or none
+-- ---- the waiting reply moves: a list of frames, which has one of them or none
 reply-open : (p : Phase) (w : Waiting) (c : Bool) → isOver p ≡ false → waits w ≡ true → Link p w c → (c ≡ false) × Link p NoReply (isClose (replyCode w))
 reply-open p NoReply c o h k = never h refl
 reply-open active PongReply c o h k = (k, refl)
@@ -247,6 +233,10 @@ reply-knows NoReply handed load h k = never h refl
 reply-knows PongReply handed load h k = k
 reply-knows CloseReply handed load h k = k
 
+-- the frame that it is
+abbrev replyAsFrame : Reply → List ℕ → Frame
+replyAsFrame q mask = record { final = true; op = replyCode (q .waiting); mask = mask; load = loadOf q }
+
 pub fits-room : (held : ℕ) (output bytes : List ℕ) → held ≤ length output → fits held output bytes ≡ true → held + length bytes ≤ length output
 unfolding fits
 fits-room held output bytes k h = omega (arith, leb-true (length bytes) (length output - held) h)
@@ -261,27 +251,33 @@ module _ (l r : Side) (v : Inv l r) (mask : List ℕ) (four : length mask ≡ 4)
   abbrev waiting : Waiting
   waiting = now .reply .waiting
 
-  -- the frame that it is
-  abbrev reply-frame : Frame
-  reply-frame = record { final = true; op = replyCode waiting; mask = mask; load = loadOf (now .reply) }
+  abbrev frame : Frame
+  frame = replyAsFrame (now .reply) mask
+
+  reply-bytes : replyFrame now mask ≡ wires (isClient (now .settings)) (frame ∷ [])
+  unfolding replyFrame
+  reply-bytes = one-wire (isClient (now .settings)) frame
 
   moves : waits waiting ≡ true → fits (now .held) (l .end .output) (replyFrame now mask) ≡ true
       → Inv (atOut l (appended (withReply now (noReply (now .reply))) (l .end .output) (replyFrame now mask))) r
-  unfolding noReply replyFrame
+  unfolding noReply
   moves h k =
       let x = v .lr .sender in
       let load : List ℕ = loadOf (now .reply) in
       let free = reply-open (v .p) waiting (hasClose (v .lr .frames)) lives h (x .link) in
-      put-inv l r v reply-frame
+      put-inv l r v (frame ∷ []) (replyFrame now mask) reply-bytes
       (record {
         whole = refl;
         four = four;
         short = omega (arith, reply-short waiting load h (x .sound), v .kept-r .wide);
         fits = reply-fits (r .end .session .settings) waiting load h (x .sound);
-      })
-      (free .0) lives (now .state) (noReply (now .reply)) (v .p) (v .is-p) (l .answers .accepted) (l .answers .asked) (free .1) tt
-      (sym (append-nil (l .answers .accepted)) ∙ ap (λ (a : List Item). l .answers .accepted ++ a) (sym (reply-counts waiting load)))
-      (λ a. never (x .asks a) (free .0)) (v .rl .reader .heard) lives tt (reply-knows waiting (l .answers .handed) load h (x .knows))
+      }
+      , tt)
+      (one-last frame) (free .0) lives (now .state) (noReply (now .reply)) (v .p) (v .is-p) (l .answers .accepted) (l .answers .asked)
+      (subst (Link (v .p) NoReply) (sym (one-close frame)) (free .1)) tt
+      (sym (append-nil (l .answers .accepted))
+      ∙ ap (λ (a : List Item). l .answers .accepted ++ a) (sym (one-told frame refl ∙ reply-counts waiting load)))
+      (λ a. never (x .asks a) (free .0)) (v .rl .reader .heard) lives tt (reply-knows waiting (l .answers .handed) load h (x .knows), tt)
       (range-reply now (noReply (now .reply)) (v .kept-l .ranged) (λ w. omega arith)) (v .kept-l .shaped .1)
       (fits-room (now .held) (l .end .output) (replyFrame now mask) (v .kept-l .room .for-held) k)
 

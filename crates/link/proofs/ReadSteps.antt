@@ -39,7 +39,7 @@ use Rattle.steady.proofs.OneCall.{outcome}
 use Rattle.link.specs.System.{Item, End, Pipe, Answers, Side, ended, counted, isClosed, reader, readFrom}
 use Rattle.link.proofs.Direction.{Phase, active, byUs, byPeer, acked, over, number, isOver, over-number, Link, Heard, loadOf, Sound, Knows, knows-on, all-on, Kept, heldOf, Wire, Sender, Reader, Dir, Fin, Inv}
 use Rattle.link.proofs.FrameRead.{Toward, Spot, spot-between, eventOf, Within, Ends, Came, within, ends, spot-whole, came, came-none, feed-open}
-use Rattle.link.proofs.Frames.{Frame, wires, nothing, itemsOf, told, told-last, Valid, AllValid, valid-front, valid-behind, closes, hasClose, close-append, CloseLast, close-ends}
+use Rattle.link.proofs.Frames.{Frame, wires, nothing, itemsOf, told, told-on, one-told, Valid, AllValid, valid-front, valid-behind, closes, hasClose, close-append, CloseLast, close-ends}
 
 -- ---- small facts
 pub said-still : (b : Bool) → either b false ≡ true → b ≡ true
@@ -438,7 +438,7 @@ module _ (l r : Side) (v : Inv l r) where
               spot = spot-between g (e .left .incoming) (e .left .message) c (e .between) (e .new) (kept .room .for-message) (kept .room .for-control);
               waits = waits;
               hands =
-              ap₂ (λ (x y : List Item). x ++ y) (d .reader .hands) shows ∙ sym (told-last g (d .got) f valid-got (valid-f .whole));
+              ap₂ (λ (x y : List Item). x ++ y) (d .reader .hands) shows ∙ sym (told-on g (d .got) (f ∷ []) valid-got ∙ ap (λ (i : List Item). told nothing (d .got) ++ i) (one-told f (valid-f .whole)));
               heard = subst (Heard p) (sym close-now) heard;
               says = λ b. never (d .reader .says (said-before (l .answers .said) (isClosed a) open' b)) none-before;
             })

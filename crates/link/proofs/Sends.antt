@@ -37,7 +37,7 @@ use Rattle.link.specs.Demand.{FitsOther, NoneWaits}
 use Rattle.link.specs.System.{Item, item, End, Answers, Side, Keys, four, masks, sent, textTo, binaryTo, pingTo, pongTo, closeTo}
 use Rattle.link.proofs.Direction.{Phase, active, byUs, byPeer, acked, over, number, isOver, over-number, Link, Heard, loadOf, SoundClose, Sound, Origin, caller, Knows, FrameKnows, Kept, Dir, Sender, Inv}
 use Rattle.link.proofs.FrameBack.{front-laid}
-use Rattle.link.proofs.Frames.{Frame, bytesOf, nothing, itemsOf, LoadFits, Valid, hasClose}
+use Rattle.link.proofs.Frames.{Frame, bytesOf, one-wire, nothing, itemsOf, one-told, LoadFits, Valid, hasClose, one-close, one-last}
 use Rattle.link.proofs.Puts.{outEnd, atOut, turned, mk-live, put-inv, move-inv}
 use Rattle.link.proofs.ReadBack.{not-one, holds}
 use Rattle.link.proofs.Sent.{not-false, sendable, Way, refused, goes-out, way}
@@ -116,10 +116,12 @@ module _ (l r : Side) (v : Inv l r) (op : OpCode) (bad : Bool) (load : List ℕ)
           let a = in-active l r v now in
           let g = goes now fine (ap (λ (u : Sending). isDone (u .handed .sent)) e) a in
           let put =
-          put-inv l r v frame (record { whole = refl; four = refl; short = g .short; fits = g .fits }) (a .none) (a .lives) state (s .reply) p (g .is)
-          (l .answers .accepted ++ items) (either (l .answers .asked) close) (g .link) (v .lr .sender .sound)
-          (ap (λ (i : List Item). l .answers .accepted ++ i) (g .counted))
-          (asked-now (l .answers .asked) (v .lr .sender .asks) (a .none) (g .asks)) (g .heard) (g .lives) (v .lr .sender .knows) (g .knows)
+          put-inv l r v (frame ∷ []) (bytesOf (isClient (s .settings)) frame) (one-wire (isClient (s .settings)) frame)
+          (record { whole = refl; four = refl; short = g .short; fits = g .fits }, tt) (one-last frame) (a .none) (a .lives) state (s .reply) p (g .is)
+          (l .answers .accepted ++ items) (either (l .answers .asked) close) (subst (Link p (s .reply .waiting)) (sym (one-close frame)) (g .link))
+          (v .lr .sender .sound) (ap (λ (i : List Item). l .answers .accepted ++ i) (g .counted ∙ sym (one-told frame refl)))
+          (λ b. one-close frame ∙ asked-now (l .answers .asked) (v .lr .sender .asks) (a .none) (g .asks) b) (g .heard) (g .lives) (v .lr .sender .knows)
+          (g .knows, tt)
           (range-state s state (v .kept-l .ranged) (g .low)) (v .kept-l .shaped .1) room in
           subst (λ (u : Sending). Inv (sent l u items close) r) (sym e)
           (move-inv _ r put (four (k .second)) refl (lives-by _ r put state refl (ap (λ (n : ℕ). eqb n 4) (g .is) ∙ sym (over-number p) ∙ g .lives)))
