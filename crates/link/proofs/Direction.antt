@@ -1,6 +1,6 @@
 -- One direction, from an end x to the other, y: what x has put out, what is on the way, and what y has got of it. And both together.
 use mathlib.Core.Path.{_≡_, refl, sym, ap, _∙_}
-use mathlib.Core.Bool.{Bool, true, false, not}
+use mathlib.Core.Bool.{Bool, true, false}
 use mathlib.Core.List.{List, [], _∷_, _++_, append-assoc, append-nil}
 use Prim.Native.Nat.{ℕ, _+_, _≤_}
 use lib.Dec.{eqb}
@@ -11,7 +11,6 @@ use Rattle.coding.specs.declared.opcode.OpCode.{OpCode}
 use Rattle.coding.specs.declared.opcode.OpCode.the-variants.{Data, Control, Reserved}
 use Rattle.session.specs.declared.Incoming.{Incoming}
 use Rattle.session.specs.declared.Reply.{Reply}
-use Rattle.session.specs.declared.Session.{Session}
 use Rattle.session.specs.declared.Settings.{Settings}
 use Rattle.session.specs.declared.Waiting.{Waiting}
 use Rattle.session.specs.declared.Waiting.the-variants.{Nothing as NoReply, Pong as PongReply, Close as CloseReply}
@@ -21,7 +20,7 @@ use Rattle.session.specs.Replies.{isCloseReply}
 use Rattle.session.specs.Session.{isServer, isClient}
 use Rattle.steady.specs.Shape.{Shaped}
 use Rattle.steady.proofs.Again.{Room}
-use Rattle.steady.proofs.Headers.{Waits, never}
+use Rattle.steady.proofs.Headers.{Waits}
 use Rattle.link.specs.Demand.{FirstOf}
 use Rattle.link.specs.System.{Item, item, End, Pipe, Answers, Side}
 use Rattle.link.proofs.FrameRead.{Spot, Toward}

@@ -1,6 +1,6 @@
 -- A read call that gives an event keeps the invariant: a message, a ping, a pong or a close.
-use mathlib.Core.Path.{_≡_, refl, sym, ap, ap₂, subst, _∙_}
-use mathlib.Core.Bool.{Bool, true, false, not}
+use mathlib.Core.Path.{_≡_, refl, sym, ap, subst, _∙_}
+use mathlib.Core.Bool.{Bool, true, false}
 use mathlib.Core.List.{List, [], _∷_, _++_}
 use mathlib.Core.Logic.{_⊎_, inl, inr, ⊎-elim}
 use Prim.Native.Nat.{ℕ, _≤_}
@@ -21,7 +21,7 @@ use Rattle.coding.specs.declared.opcode.OpCode.{OpCode}
 use Rattle.coding.specs.declared.opcode.OpCode.the-variants.{Data, Control, Reserved}
 use Rattle.frame.specs.Close.{closeOf, closeBytes, violation}
 use Rattle.session.specs.Answers.{kind, value, shown, beyond, partOf}
-use Rattle.session.specs.Calls.{Read, read, turn, flagged}
+use Rattle.session.specs.Calls.{Read, read, turn}
 use Rattle.session.specs.declared.Answer.{Answer}
 use Rattle.session.specs.declared.Answer.the-variants.{More, Text, Binary, Ping, Pong, Close, Closed, Refused}
 use Rattle.session.specs.declared.Reply.{Reply}
@@ -31,21 +31,21 @@ use Rattle.session.specs.declared.Turn.{Turn}
 use Rattle.session.specs.declared.Waiting.{Waiting}
 use Rattle.session.specs.declared.Waiting.the-variants.{Nothing as NoReply, Pong as PongReply, Close as CloseReply}
 use Rattle.session.specs.Frames.{isClose, reasonHolds}
-use Rattle.session.specs.Reading.{World, world, At, after, controlEvent, isMore}
+use Rattle.session.specs.Reading.{world, At, after, controlEvent, isMore}
 use Rattle.session.specs.Replies.{replyOf, withPong, codeAllowed, shownLength, shownControl, closeCame, pingCame, Concluded, concluded, conclude}
-use Rattle.session.specs.Session.{isServer, isClient, isActive, isClosedByUs, withState, withIncoming, withReply}
+use Rattle.session.specs.Session.{isClient, isActive, isClosedByUs, withState, withIncoming, withReply}
 use Rattle.steady.proofs.Frames.{refusalOf, FineWorld}
 use Rattle.steady.proofs.Headers.{Waits, never}
 use Rattle.steady.proofs.OneCall.{outcome, flagged-answered, conclude-more}
 use Rattle.utf8.specs.Progress.{stepped, progressAfter, isWhole}
-use Rattle.link.specs.System.{Item, item, End, Side, counted, isClosed, reader, readFrom}
+use Rattle.link.specs.System.{item, Side, counted, isClosed, reader, readFrom}
 use Rattle.link.proofs.CallBack.{data-answers, control-answers}
-use Rattle.link.proofs.Direction.{Phase, active, byUs, byPeer, acked, over, number, isOver, Link, Heard, loadOf, SoundClose, Sound, Origin, answers, Knows, knows-on, Kept, Dir, Inv}
+use Rattle.link.proofs.Direction.{Phase, active, byUs, byPeer, acked, over, number, isOver, Link, Heard, loadOf, SoundClose, Sound, answers, Knows, knows-on, Kept, Inv}
 use Rattle.link.proofs.FrameBack.{dataEvent, front-laid}
 use Rattle.link.proofs.FrameRead.{eventOf, Ends}
-use Rattle.link.proofs.Frames.{Frame, nothing, itemsOf, LoadFits, hasClose, closes}
+use Rattle.link.proofs.Frames.{Frame, nothing, itemsOf, LoadFits, hasClose}
 use Rattle.link.proofs.ReadSteps.{endOf, piece, more, come-to, fine, none-before, valid-f, event-inv}
-use Rattle.link.proofs.Sends.{Active, in-active, pong-set, load-set, set-kind}
+use Rattle.link.proofs.Sends.{in-active, pong-set, load-set, set-kind}
 
 -- ---- a close that is echoed is one that a reader takes
 violation-sound : SoundClose (closeBytes 1002 violation)

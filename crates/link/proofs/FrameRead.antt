@@ -2,17 +2,14 @@
 use mathlib.Core.Path.{_≡_, refl, sym, ap, ap₂, subst, _∙_}
 use mathlib.Core.Bool.{Bool, true, false, not}
 use mathlib.Core.List.{List, [], _∷_, _++_, append-assoc, append-nil}
-use mathlib.Core.Logic.{_⊎_, inl, inr}
 use Prim.Native.Nat.{ℕ, _+_, _-_, _<_, _≤_}
 use native.Mathlib.Omega.{arith}
 use lib.Dec.{eqb, ltb}
-use lib.ListN.{length, take, drop, length-append}
+use lib.ListN.{length, length-append}
 use borrow.Author.Tests.{ltb-true, ltb-false}
 use Rattle.base.specs.Stores.{laid}
-use Rattle.base.specs.Table.{pick}
-use Rattle.base.specs.Tests.{both, either, Test, _when_, firstOf}
+use Rattle.base.specs.Tests.{both}
 use Rattle.base.proofs.Choice.{by-test}
-use Rattle.base.proofs.Stores.{length-laid}
 use Rattle.coding.specs.declared.opcode.Control.{Control as ControlKind}
 use Rattle.coding.specs.declared.opcode.Control.the-variants.{Close, Ping, Pong}
 use Rattle.coding.specs.declared.opcode.Data.{Data as DataKind}
@@ -22,26 +19,25 @@ use Rattle.coding.specs.declared.opcode.OpCode.the-variants.{Data, Control, Res
 use Rattle.frame.specs.declared.header.FrameHeader.{FrameHeader}
 use Rattle.frame.specs.Header.{headerBytes}
 use Rattle.session.specs.declared.Answer.{Answer}
-use Rattle.session.specs.declared.Answer.the-variants.{More, Text as TextEvent, Binary as BinaryEvent}
+use Rattle.session.specs.declared.Answer.the-variants.{More}
 use Rattle.session.specs.declared.Incoming.{Incoming}
 use Rattle.session.specs.declared.Settings.{Settings}
 use Rattle.session.specs.Answers.{shown}
-use Rattle.session.specs.Frames.{frame, isContinueKind, isTextKind, isCloseKind, reasonHolds, doomTests, doom, utfTest, verdict}
-use Rattle.session.specs.Reading.{World, world, At, after, keep, between as betweenFrames, controlEvent, stored, ended, refuse, finish, rest, settle, byteIn, isMore, step, feed}
+use Rattle.session.specs.Frames.{frame, doomTests, doom, verdict}
+use Rattle.session.specs.Reading.{World, world, At, after, keep, between as betweenFrames, controlEvent, stored, finish, rest, settle, byteIn, isMore, step, feed}
 use Rattle.session.specs.Replies.{frameHeader, encoded}
 use Rattle.session.specs.Session.{isServer, isClient, isPeerClosed}
 use Rattle.session.proofs.Choices.{both-none}
-use Rattle.session.proofs.Fold.{is-more, feed-append, feed-stopped, feed-later, feed-cut}
+use Rattle.session.proofs.Fold.{is-more, feed-append, feed-stopped, feed-cut}
 use Rattle.steady.proofs.Again.{either-not}
-use Rattle.steady.proofs.Feeding.{feed-taken, feed-all, settle-still}
-use Rattle.steady.proofs.Headers.{Waits, never}
-use Rattle.utf8.specs.Progress.{progressAfter, isWhole}
+use Rattle.steady.proofs.Feeding.{feed-taken, feed-all}
+use Rattle.steady.proofs.Headers.{never}
 use Rattle.message.proofs.Runs.{open-world}
 use Rattle.link.proofs.CallBack.{data-admitted, control-admitted, header-admitted, data-number, control-number, data-answers, control-answers}
 use Rattle.link.proofs.FrameBack.{dataEvent, begun-all, data-back, control-back, front-laid}
 use Rattle.link.proofs.Frames.{Frame, bytesOf, wires, LoadFits, Valid, AllValid}
 use Rattle.link.proofs.HeaderBack.{keepAll, header-kept, Between}
-use Rattle.link.proofs.Overlap.{Overlap, overlap, no-first, no-second}
+use Rattle.link.proofs.Overlap.{overlap, no-first, no-second}
 
 -- ---- the state is looked at for 6 alone: where the peer has not closed, reading is the same in every state
 module _ (g : Settings) (state : ℕ) (open' : isPeerClosed state ≡ false) where

@@ -1,11 +1,10 @@
 -- A frame is put out, and the waiting reply moves: both keep the invariant.
 use mathlib.Core.Path.{_≡_, refl, sym, ap, ap₂, subst, _∙_}
-use mathlib.Core.Bool.{Bool, true, false, not}
+use mathlib.Core.Bool.{Bool, true, false}
 use mathlib.Core.List.{List, [], _∷_, _++_, append-assoc, append-nil}
 use Prim.Native.Nat.{ℕ, _+_, _-_, _≤_}
 use native.Mathlib.Omega.{arith}
-use lib.Dec.{eqb}
-use lib.ListN.{length, take, drop, length-append, length-take}
+use lib.ListN.{length, take, drop, length-append}
 use lib.Seq.{take-at, length-take-le}
 use borrow.Author.Tests.{leb-true}
 use Rattle.base.specs.Stores.{laid}
@@ -13,26 +12,21 @@ use Rattle.base.specs.Table.{pick}
 use Rattle.base.specs.Tests.{both, either}
 use Rattle.base.proofs.Choice.{by-test}
 use Rattle.base.proofs.Stores.{length-laid, laid-split}
-use Rattle.coding.specs.declared.opcode.Control.the-variants.{Close, Ping, Pong}
-use Rattle.coding.specs.declared.opcode.OpCode.{OpCode}
-use Rattle.coding.specs.declared.opcode.OpCode.the-variants.{Data, Control, Reserved}
 use Rattle.session.specs.declared.Reply.{Reply}
 use Rattle.session.specs.declared.Session.{Session}
 use Rattle.session.specs.declared.Settings.{Settings}
 use Rattle.session.specs.declared.Waiting.{Waiting}
 use Rattle.session.specs.declared.Waiting.the-variants.{Nothing as NoReply, Pong as PongReply, Close as CloseReply}
-use Rattle.session.specs.Frames.{reasonHolds, isClose}
+use Rattle.session.specs.Frames.{isClose}
 use Rattle.session.specs.Range.{inRange, waits}
-use Rattle.session.specs.Replies.{encoded, fits, noReply, isCloseReply, replyCode, replyFrame, Out, out, appended, moveReply}
+use Rattle.session.specs.Replies.{fits, noReply, replyCode, replyFrame, Out, out, appended, moveReply}
 use Rattle.session.specs.Session.{isServer, isClient, withReply}
 use Rattle.session.proofs.Choices.{both-parts}
-use Rattle.steady.proofs.Again.{Room}
 use Rattle.steady.proofs.Headers.{never}
 use Rattle.steady.proofs.Parts.{range-held, range-reply}
-use Rattle.link.specs.System.{Item, End, Pipe, Answers, Side}
-use Rattle.link.proofs.Direction.{Phase, active, byUs, byPeer, acked, over, number, isOver, Link, Heard, loadOf, Sound, Knows, FrameKnows, AllKnow, know-append, Kept, heldOf, Wire, Sender, Reader, Dir, Fin, Inv}
-use Rattle.link.proofs.FrameRead.{Toward}
-use Rattle.link.proofs.Frames.{Frame, wires, wires-append, one-wire, nothing, itemsOf, told, told-on, one-told, LoadFits, Valid, AllValid, valid-append, hasClose, one-close, close-append, CloseLast, close-on, one-last}
+use Rattle.link.specs.System.{Item, End, Answers, Side}
+use Rattle.link.proofs.Direction.{Phase, active, byUs, byPeer, acked, over, number, isOver, Link, Heard, loadOf, Sound, Knows, FrameKnows, AllKnow, know-append, Kept, heldOf, Wire, Sender, Dir, Inv}
+use Rattle.link.proofs.Frames.{Frame, wires, wires-append, one-wire, nothing, itemsOf, told, told-on, one-told, LoadFits, AllValid, valid-append, hasClose, one-close, close-append, CloseLast, close-on, one-last}
 
 -- ---- an end of which a call left another session and output
 abbrev pub outEnd : End → Out → End

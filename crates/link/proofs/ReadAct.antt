@@ -1,12 +1,12 @@
 -- A read call of one end, offered the next bytes of the other's pipe, keeps the invariant, and by which numbers it can be refused.
 use mathlib.Core.Path.{_≡_, refl, sym, ap, ap₂, subst, _∙_}
 use mathlib.Core.Bool.{Bool, true, false, not}
-use mathlib.Core.List.{List, [], _∷_, _++_, append-nil}
+use mathlib.Core.List.{List, [], _++_, append-nil}
 use mathlib.Core.Logic.{_⊎_, inl, inr, ⊎-elim}
 use Prim.Native.Nat.{ℕ, _≤_}
 use native.Mathlib.Omega.{arith}
 use lib.Dec.{eqb, leb}
-use lib.ListN.{length, take, drop}
+use lib.ListN.{length, take}
 use borrow.Author.Tests.{leb-true, ne-eqb}
 use Rattle.base.specs.Table.{pick}
 use Rattle.base.specs.Tests.{both, either, firstOf}
@@ -20,7 +20,6 @@ use Rattle.session.specs.declared.Settings.{Settings}
 use Rattle.session.specs.declared.Waiting.{Waiting}
 use Rattle.session.specs.declared.Waiting.the-variants.{Nothing as NoReply, Pong as PongReply, Close as CloseReply}
 use Rattle.session.specs.Range.{waits}
-use Rattle.session.specs.Reading.{world, At, after}
 use Rattle.session.specs.Replies.{fits, isCloseReply, replyFrame, noReply, Out, appended, moveReply}
 use Rattle.session.specs.Session.{isServer, isPeerClosed, isTerminated, withState}
 use Rattle.session.proofs.Choices.{both-parts}
@@ -33,11 +32,11 @@ use Rattle.steady.proofs.Passing.{lateClose}
 use Rattle.steady.proofs.Sizes.{read-room, read-settings}
 use Rattle.link.specs.Demand.{closeStuck, Refusals}
 use Rattle.link.specs.System.{Item, End, Answers, Side, Keys, four, masks, ended, readBy, reader, readFrom}
-use Rattle.link.proofs.Direction.{Phase, isOver, over-number, Kept, Inv}
+use Rattle.link.proofs.Direction.{isOver, over-number, Kept, Inv}
 use Rattle.link.proofs.Events.{event-aim, event-kind}
-use Rattle.link.proofs.FrameRead.{Within, Ends, Came, within, ends}
+use Rattle.link.proofs.FrameRead.{Within, within, ends}
 use Rattle.link.proofs.Puts.{atOut, move-inv}
-use Rattle.link.proofs.ReadSteps.{endOf, piece, more, come-to, Comes, come, more-read, more-inv, end-read, end-inv, end-cut, closed-read, closed-inv}
+use Rattle.link.proofs.ReadSteps.{endOf, piece, come-to, Comes, come, more-read, more-inv, end-read, end-inv, end-cut, closed-inv}
 use Rattle.link.proofs.Sends.{lives-by}
 
 -- a refusal is 16, and some pipe was cut

@@ -1,44 +1,36 @@
 -- A read call keeps the invariant, once its waiting reply has moved: it takes a piece inside a frame, gives the event of a frame that ends, or
 -- ends the session.
 use mathlib.Core.Path.{_≡_, refl, sym, ap, ap₂, subst, _∙_}
-use mathlib.Core.Bool.{Bool, true, false, not}
+use mathlib.Core.Bool.{Bool, true, false}
 use mathlib.Core.List.{List, [], _∷_, _++_, append-assoc, append-nil, nil≢cons}
 use Prim.Native.Nat.{ℕ, _+_, _≤_}
-use native.Mathlib.Omega.{arith}
-use lib.Dec.{eqb, leb}
+use lib.Dec.{eqb}
 use lib.ListN.{length, take, drop, take-append-drop, drop-of-length-le}
 use lib.Seq.{drop-append-seam}
 use borrow.Author.Tests.{eqb-true}
 use Rattle.base.specs.Table.{pick}
 use Rattle.base.specs.Tests.{both, either}
 use Rattle.base.proofs.Choice.{by-test}
-use Rattle.coding.specs.declared.opcode.Control.{Control as ControlKind}
-use Rattle.coding.specs.declared.opcode.Control.the-variants.{Close as CloseFrame, Ping as PingFrame, Pong as PongFrame}
-use Rattle.coding.specs.declared.opcode.Data.{Data as DataKind}
-use Rattle.coding.specs.declared.opcode.Data.the-variants.{Continue, Text as TextFrame, Binary as BinaryFrame}
-use Rattle.coding.specs.declared.opcode.OpCode.{OpCode}
-use Rattle.coding.specs.declared.opcode.OpCode.the-variants.{Data, Control, Reserved}
-use Rattle.session.specs.Calls.{Read, read, turn, flagged}
+use Rattle.session.specs.Calls.{Read, read, turn}
 use Rattle.session.specs.declared.Answer.{Answer}
-use Rattle.session.specs.declared.Answer.the-variants.{More, Text, Binary, Ping, Pong, Close, Closed, Refused}
+use Rattle.session.specs.declared.Answer.the-variants.{More, Closed, Refused}
 use Rattle.session.specs.declared.Incoming.{Incoming}
 use Rattle.session.specs.declared.Reply.{Reply}
 use Rattle.session.specs.declared.Session.{Session}
 use Rattle.session.specs.declared.Settings.{Settings}
 use Rattle.session.specs.declared.Waiting.{Waiting}
 use Rattle.session.specs.declared.Waiting.the-variants.{Nothing as NoReply, Pong as PongReply, Close as CloseReply}
-use Rattle.session.specs.Reading.{World, world, At, after, feed, settle, isMore}
+use Rattle.session.specs.Reading.{World, world, At, after, feed}
 use Rattle.session.specs.Replies.{isCloseReply}
-use Rattle.session.specs.Session.{isServer, isClient, isPeerClosed, withIncoming, withState}
+use Rattle.session.specs.Session.{isServer, isClient, isPeerClosed}
 use Rattle.session.proofs.Choices.{both-parts, either-all}
 use Rattle.steady.proofs.Feeding.{settle-still}
 use Rattle.steady.proofs.Headers.{Waits, never}
-use Rattle.steady.proofs.Frames.{Fine, FineWorld}
+use Rattle.steady.proofs.Frames.{FineWorld}
 use Rattle.steady.proofs.InRangeStays.{fed, fed-fine}
-use Rattle.steady.proofs.OneCall.{outcome}
-use Rattle.link.specs.System.{Item, End, Pipe, Answers, Side, ended, counted, isClosed, reader, readFrom}
-use Rattle.link.proofs.Direction.{Phase, active, byUs, byPeer, acked, over, number, isOver, over-number, Link, Heard, loadOf, Sound, Knows, knows-on, all-on, Kept, heldOf, Wire, Sender, Reader, Dir, Fin, Inv}
-use Rattle.link.proofs.FrameRead.{Toward, Spot, spot-between, eventOf, Within, Ends, Came, within, ends, spot-whole, came, came-none, feed-open}
+use Rattle.link.specs.System.{Item, End, Side, ended, counted, isClosed, reader, readFrom}
+use Rattle.link.proofs.Direction.{Phase, active, byUs, byPeer, acked, over, number, isOver, over-number, Link, Heard, loadOf, Sound, Knows, knows-on, all-on, Kept, heldOf, Reader, Dir, Fin, Inv}
+use Rattle.link.proofs.FrameRead.{spot-between, Within, Ends, Came, within, ends, spot-whole, came, came-none, feed-open}
 use Rattle.link.proofs.Frames.{Frame, wires, nothing, itemsOf, told, told-on, one-told, Valid, AllValid, valid-front, valid-behind, closes, hasClose, close-append, CloseLast, close-ends}
 
 -- ---- small facts

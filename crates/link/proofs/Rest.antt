@@ -1,28 +1,25 @@
 -- The last sentence of demand 3: where no read would change anything, both ends have answered closed.
 use mathlib.Core.Path.{_≡_, refl, sym, ap, ap₂, subst, _∙_}
 use mathlib.Core.Bool.{Bool, true, false, not}
-use mathlib.Core.List.{List, [], _∷_, _++_, append-nil}
+use mathlib.Core.List.{List, [], _++_, append-nil}
 use Prim.Native.Nat.{ℕ, _+_, _-_, _≤_, _<_}
 use native.Mathlib.Omega.{arith}
 use lib.Dec.{eqb}
 use lib.ListN.{length, take}
-use borrow.Author.Tests.{eq-eqb, eqb-true, le-leb}
+use borrow.Author.Tests.{eq-eqb, le-leb}
 use Rattle.base.specs.Table.{pick}
 use Rattle.base.specs.Tests.{both, either, firstOf}
 use Rattle.base.proofs.Choice.{by-test}
-use Rattle.frame.specs.Header.{headerSize}
 use Rattle.session.specs.Calls.{Read, read, turn, flagged, readTests, takeBytes, readOn, readCall}
 use Rattle.session.specs.declared.Answer.the-variants.{More, Closed}
 use Rattle.session.specs.declared.Session.{Session}
-use Rattle.session.specs.declared.Settings.{Settings}
 use Rattle.session.specs.declared.Waiting.{Waiting}
 use Rattle.session.specs.declared.Waiting.the-variants.{Nothing as NoReply, Pong as PongReply, Close as CloseReply}
 use Rattle.session.specs.Range.{waits}
-use Rattle.session.specs.Reading.{World, world, At, after, feed, settle, isMore}
-use Rattle.session.specs.Replies.{fits, isCloseReply, replyCode, replyFrame, noReply, Out, out, appended, moveReply}
+use Rattle.session.specs.Reading.{World, world, At, after, feed, isMore}
+use Rattle.session.specs.Replies.{fits, isCloseReply, replyCode, replyFrame, Out, out, appended, moveReply}
 use Rattle.session.specs.Session.{isServer, isClient, isPeerClosed, isTerminated, withState}
 use Rattle.session.proofs.Choices.{both-none}
-use Rattle.session.proofs.InRange.{Good}
 use Rattle.steady.proofs.Again.{length-encoded}
 use Rattle.steady.proofs.Feeding.{feed-all, feed-moves, settle-still}
 use Rattle.steady.proofs.Headers.{never}
@@ -32,13 +29,13 @@ use Rattle.steady.proofs.Parts.{in-range}
 use Rattle.steady.proofs.Sizes.{Short, reply-small, close-fits, read-held}
 use Rattle.link.specs.Demand.{Still, AtRest}
 use Rattle.link.specs.System.{End, Side, Keys, four, masks, ended, offered}
-use Rattle.link.proofs.Direction.{Phase, number, isOver, over-number, Heard, loadOf, heldOf, Dir, Inv, inv-swap}
+use Rattle.link.proofs.Direction.{Phase, number, isOver, over-number, loadOf, heldOf, Dir, Inv, inv-swap}
 use Rattle.link.proofs.FrameBack.{no-bytes}
 use Rattle.link.proofs.FrameRead.{spot-whole}
 use Rattle.link.proofs.Frames.{Frame, wires, AllValid, valid-behind, hasClose}
 use Rattle.link.proofs.HeaderBack.{size-least}
 use Rattle.link.proofs.ReadAct.{tests}
-use Rattle.link.proofs.ReadSteps.{heard-closed, heard-open, link-closed}
+use Rattle.link.proofs.ReadSteps.{heard-open, link-closed}
 
 -- ---- an end that lives, holds no output, and that a read of all that is there leaves as it is
 zero-keys : Keys

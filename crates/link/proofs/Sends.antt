@@ -5,9 +5,8 @@ use mathlib.Core.List.{List, [], _∷_, _++_, append-nil}
 use Prim.Native.Nat.{ℕ, _≤_}
 use native.Mathlib.Omega.{arith}
 use lib.Dec.{eqb, ltb}
-use lib.ListN.{length, take, drop}
+use lib.ListN.{length, drop}
 use borrow.Author.Tests.{eqb-true, ltb-false}
-use Rattle.base.specs.Stores.{laid}
 use Rattle.base.specs.Table.{pick}
 use Rattle.base.specs.Tests.{either, firstOf}
 use Rattle.base.proofs.Choice.{by-test}
@@ -19,15 +18,15 @@ use Rattle.coding.specs.declared.opcode.OpCode.the-variants.{Data, Control}
 use Rattle.session.specs.Calls.{Sending, sending, sendTests, sendFrame, textCall, binaryCall, pingCall, closingBytes, closeCall, pongCall, waitsCall}
 use Rattle.session.specs.declared.Closing.{Closing}
 use Rattle.session.specs.declared.Reply.{Reply}
-use Rattle.session.specs.declared.Sent.the-variants.{Done, Refused as NotSent}
+use Rattle.session.specs.declared.Sent.the-variants.{Done}
 use Rattle.session.specs.declared.Session.{Session}
 use Rattle.session.specs.declared.Settings.{Settings}
 use Rattle.session.specs.declared.Waiting.{Waiting}
 use Rattle.session.specs.declared.Waiting.the-variants.{Nothing as NoReply, Pong as PongReply, Close as CloseReply}
-use Rattle.session.specs.Frames.{isClose, reasonHolds}
+use Rattle.session.specs.Frames.{isClose}
 use Rattle.session.specs.Range.{inRange, waits}
-use Rattle.session.specs.Replies.{encoded, isCloseReply, replyOf, withPong, Out, out, appended, moveReply}
-use Rattle.session.specs.Session.{isServer, isClient, isActive, withReply}
+use Rattle.session.specs.Replies.{isCloseReply, replyOf, withPong, Out, out, appended, moveReply}
+use Rattle.session.specs.Session.{isClient, isActive, withReply}
 use Rattle.steady.specs.Taking.{isDone}
 use Rattle.steady.proofs.Again.{either-not}
 use Rattle.steady.proofs.Headers.{never}
@@ -35,10 +34,10 @@ use Rattle.steady.proofs.Parts.{range-state, range-reply}
 use Rattle.utf8.specs.Progress.{progressAfter, isWhole}
 use Rattle.link.specs.Demand.{FitsOther, NoneWaits}
 use Rattle.link.specs.System.{Item, item, End, Answers, Side, Keys, four, masks, sent, textTo, binaryTo, pingTo, pongTo, closeTo}
-use Rattle.link.proofs.Direction.{Phase, active, byUs, byPeer, acked, over, number, isOver, over-number, Link, Heard, loadOf, SoundClose, Sound, Origin, caller, Knows, FrameKnows, Kept, Dir, Sender, Inv}
+use Rattle.link.proofs.Direction.{Phase, active, byUs, byPeer, acked, over, number, isOver, over-number, Link, Heard, loadOf, Sound, caller, Knows, FrameKnows, Inv}
 use Rattle.link.proofs.FrameBack.{front-laid}
-use Rattle.link.proofs.Frames.{Frame, bytesOf, one-wire, nothing, itemsOf, one-told, LoadFits, Valid, hasClose, one-close, one-last}
-use Rattle.link.proofs.Puts.{outEnd, atOut, turned, mk-live, put-inv, move-inv}
+use Rattle.link.proofs.Frames.{Frame, bytesOf, one-wire, nothing, itemsOf, one-told, LoadFits, hasClose, one-close, one-last}
+use Rattle.link.proofs.Puts.{outEnd, atOut, mk-live, put-inv, move-inv}
 use Rattle.link.proofs.ReadBack.{not-one, holds}
 use Rattle.link.proofs.Sent.{not-false, sendable, Way, refused, goes-out, way}
 

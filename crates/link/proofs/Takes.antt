@@ -1,31 +1,30 @@
 -- Taking output, and a cut, keep the invariant.
-use mathlib.Core.Path.{_≡_, refl, sym, ap, ap₂, subst, _∙_}
+use mathlib.Core.Path.{_≡_, refl, sym, ap, ap₂, _∙_}
 use mathlib.Core.Bool.{Bool, true, false, not}
-use mathlib.Core.List.{List, [], _∷_, _++_, append-assoc, append-nil}
+use mathlib.Core.List.{List, [], _++_, append-assoc}
 use Prim.Native.Nat.{ℕ, _+_, _-_, _≤_}
 use native.Mathlib.Omega.{arith}
 use lib.Dec.{eqb, ltb}
-use lib.ListN.{length, take, drop, take-append-drop, length-take, length-drop}
+use lib.ListN.{length, take, drop, take-append-drop, length-drop}
 use lib.Seq.{length-take-le}
-use borrow.Author.Tests.{eqb-true, eq-eqb, ltb-false, le-ltb}
+use borrow.Author.Tests.{eqb-true, ltb-false, le-ltb}
 use Rattle.base.specs.Bytes.{part}
 use Rattle.base.specs.Stores.{laid}
 use Rattle.base.specs.Table.{pick}
-use Rattle.base.specs.Tests.{either, firstOf}
+use Rattle.base.specs.Tests.{firstOf}
 use Rattle.base.proofs.Bytes.{take-drop}
 use Rattle.base.proofs.Choice.{by-test}
 use Rattle.base.proofs.Stores.{length-laid}
-use Rattle.base.proofs.Tests.{passed, none-met, first-clear}
-use Rattle.session.specs.Calls.{outputShort, Sending, sending, heldNumber, heldPart, takeTests, takeCall}
-use Rattle.session.specs.declared.Sent.the-variants.{Done, Refused as NotSent}
+use Rattle.base.proofs.Tests.{first-clear}
+use Rattle.session.specs.Calls.{outputShort, heldNumber, heldPart, takeTests, takeCall}
 use Rattle.session.specs.declared.Session.{Session}
 use Rattle.session.specs.Range.{inRange}
-use Rattle.session.specs.Session.{isClient, withHeld}
-use Rattle.steady.proofs.Again.{Room, either-not}
+use Rattle.session.specs.Session.{withHeld}
+use Rattle.steady.proofs.Again.{either-not}
 use Rattle.steady.proofs.Headers.{never}
 use Rattle.steady.proofs.Parts.{range-held}
 use Rattle.link.specs.System.{End, Pipe, Side, givenBytes, taken, cutAt}
-use Rattle.link.proofs.Direction.{Phase, Kept, heldOf, Wire, Dir, Fin, Inv}
+use Rattle.link.proofs.Direction.{heldOf, Wire, Inv}
 use Rattle.link.proofs.FrameBack.{front-laid}
 use Rattle.link.proofs.Frames.{Frame}
 

@@ -1,30 +1,27 @@
 -- Demand 3, over every list of acts that meets its premises.
-use mathlib.Core.Path.{_≡_, refl, sym, ap, ap₂, subst, _∙_}
-use mathlib.Core.Bool.{Bool, true, false, not}
+use mathlib.Core.Path.{_≡_, refl, sym, ap, subst, _∙_}
+use mathlib.Core.Bool.{Bool, true, false}
 use mathlib.Core.List.{List, [], _∷_, _++_}
 use Prim.Native.Nat.{ℕ, _≤_}
 use native.Mathlib.Omega.{arith}
-use lib.ListN.{length}
 use borrow.Author.Tests.{leb-true}
-use Rattle.base.specs.Tests.{both}
 use Rattle.session.specs.Calls.{noIncoming, emptyReply, fresh, roleNumber, heldPart, newCall}
-use Rattle.session.specs.declared.Incoming.{Incoming}
 use Rattle.session.specs.declared.Role.{Role}
 use Rattle.session.specs.declared.Role.the-variants.{Server, Client}
 use Rattle.session.specs.declared.Session.{Session}
 use Rattle.session.specs.declared.Settings.{Settings}
 use Rattle.session.specs.Range.{limitsHold, inRange}
-use Rattle.session.specs.Session.{isServer, isClient}
+use Rattle.session.specs.Session.{isClient}
 use Rattle.session.proofs.Choices.{both-parts}
 use Rattle.session.proofs.InRange.{new-range}
 use Rattle.steady.specs.Shape.{Shaped}
-use Rattle.steady.proofs.Headers.{Waits, never}
+use Rattle.steady.proofs.Headers.{never}
 use Rattle.steady.proofs.InRangeStays.{shape-new}
 use Rattle.link.specs.Demand.{Fit, Allowed, AllowedTurn, AllAllowed, FirstOf, Refusals, AtRest}
 use Rattle.link.specs.System.{End, Side, System, Keys, Lends, Act, sendText, sendBinary, sendPing, sendPong, sendClose, takes, reads, cuts, readBy, done, swap, Turn, onLeft, onRight, next, run, freshSide, outset}
-use Rattle.link.proofs.Direction.{Phase, active, Kept, heldOf, Dir, Fin, Inv, inv-swap, first-dir, said-dir}
+use Rattle.link.proofs.Direction.{active, Kept, Dir, Inv, inv-swap, first-dir, said-dir}
 use Rattle.link.proofs.FrameRead.{Toward, spot-between}
-use Rattle.link.proofs.Frames.{Frame, wires, nothing, told, AllValid}
+use Rattle.link.proofs.Frames.{Frame, wires, told, AllValid}
 use Rattle.link.proofs.HeaderBack.{Between, unread}
 use Rattle.link.proofs.ReadAct.{read-inv, read-refusals}
 use Rattle.link.proofs.Rest.{both-said}

@@ -1,6 +1,6 @@
 -- Two ends joined by two pipes (demand 3). Every act is a public call's definition applied to the side's own session and stores, and what
 -- counts is read off its answers.
-use mathlib.Core.Bool.{Bool, true, false, not}
+use mathlib.Core.Bool.{Bool, true, false}
 use mathlib.Core.List.{List, [], _∷_, _++_}
 use Prim.Native.Nat.{ℕ}
 use lib.Dec.{eqb, leb}
