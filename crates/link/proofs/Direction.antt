@@ -192,6 +192,48 @@ pub record Dir (x y : Side) (p q : Phase) : Type 0 where
   pub sender : Sender (y .end .session .settings) (isServer (x .end .session .settings)) frames p (x .end .session .reply .waiting) (loadOf (x .end .session .reply)) (x .answers)
   pub reader : Reader (y .end .session .settings) got part (y .end .session .incoming) (y .end .message) (y .end .control) q (y .answers .handed) (y .answers .said)
 
+-- a direction of which only the side changed that speaks, or that hears. What the other parts speak of is the same
+pub speaks : (x x' y : Side) (p p' q : Phase) (d : Dir x y p q) (lost : List ℕ) → Toward (isClient (x' .end .session .settings)) (y .end .session .settings)
+    → Wire (isClient (x' .end .session .settings)) (d .frames) (d .rest) (d .part) lost (x' .pipe) (heldOf (x' .end))
+    → Sender (y .end .session .settings) (isServer (x' .end .session .settings)) (d .frames) p' (x' .end .session .reply .waiting) (loadOf (x' .end .session .reply)) (x' .answers)
+    → Dir x' y p' q
+speaks x x' y p p' q d lost toward wire sender =
+    record {
+      frames = d .frames;
+      got = d .got;
+      rest = d .rest;
+      part = d .part;
+      lost = lost;
+      split = d .split;
+      toward = toward;
+      wire = wire;
+      sender = sender;
+      reader = d .reader;
+    }
+
+pub hears : (x y y' : Side) (p q q' : Phase) (d : Dir x y p q) → Toward (isClient (x .end .session .settings)) (y' .end .session .settings)
+    → Sender (y' .end .session .settings) (isServer (x .end .session .settings)) (d .frames) p (x .end .session .reply .waiting) (loadOf (x .end .session .reply)) (x .answers)
+    → Reader (y' .end .session .settings) (d .got) (d .part) (y' .end .session .incoming) (y' .end .message) (y' .end .control) q' (y' .answers .handed) (y' .answers .said)
+    → Dir x y' p q'
+hears x y y' p q q' d toward sender reader =
+    record {
+      frames = d .frames;
+      got = d .got;
+      rest = d .rest;
+      part = d .part;
+      lost = d .lost;
+      split = d .split;
+      toward = toward;
+      wire = d .wire;
+      sender = sender;
+      reader = reader;
+    }
+
+-- in another state
+pub heard-as : {g : Settings} {got : List Frame} {part : List ℕ} {i : Incoming} {m c : List ℕ} {p : Phase} {handed : List Item} {said : Bool} (q : Phase)
+    → Reader g got part i m c p handed said → Heard q (hasClose got) → Reader g got part i m c q handed said
+heard-as q x h = record { spot = x .spot; waits = x .waits; hands = x .hands; heard = h; says = x .says }
+
 -- how x came to its end where nothing was cut: it said closed, and a client the server before it
 pub record Fin (x y : Side) (p q : Phase) : Type 0 where
   pub ends : x .pipe .cut ≡ false → y .pipe .cut ≡ false → isOver p ≡ true

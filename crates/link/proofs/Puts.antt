@@ -25,7 +25,7 @@ use Rattle.session.proofs.Choices.{both-parts}
 use Rattle.steady.proofs.Headers.{never}
 use Rattle.steady.proofs.Parts.{range-held, range-reply}
 use Rattle.link.specs.System.{Item, End, Answers, Side}
-use Rattle.link.proofs.Direction.{Phase, active, byUs, byPeer, acked, over, number, isOver, Link, Heard, loadOf, Sound, Knows, FrameKnows, AllKnow, know-append, Kept, heldOf, Wire, Sender, Dir, Inv}
+use Rattle.link.proofs.Direction.{Phase, active, byUs, byPeer, acked, over, number, isOver, Link, Heard, loadOf, Sound, Knows, FrameKnows, AllKnow, know-append, Kept, heldOf, Wire, Sender, Dir, hears, heard-as, Inv}
 use Rattle.link.proofs.Frames.{Frame, wires, wires-append, one-wire, nothing, itemsOf, told, told-on, one-told, LoadFits, AllValid, valid-append, hasClose, one-close, close-append, CloseLast, close-on, one-last}
 
 -- ---- an end of which a call left another session and output
@@ -138,6 +138,9 @@ module _ (l r : Side) (v : Inv l r) (fs : List Frame) (bytes : List ℕ) (is-byt
     abbrev said-now : Answers
     said-now = record { accepted = accepted; handed = l .answers .handed; said = l .answers .said; asked = asked }
 
+    abbrev now-side : Side
+    now-side = record { end = put; pipe = l .pipe; answers = said-now }
+
     put-sender : Sender (r .end .session .settings) (isServer (s .settings)) (v .lr .frames ++ fs) p (reply .waiting) (loadOf reply) said-now
     put-sender =
         let x = v .lr .sender in
@@ -156,10 +159,10 @@ module _ (l r : Side) (v : Inv l r) (fs : List Frame) (bytes : List ℕ) (is-byt
         }
 
     pub put-inv : inRange (turned s state reply) ≡ true → length (reply .payload) ≡ 125 → s .held + length bytes ≤ length (l .end .output)
-        → Inv (record { end = put; pipe = l .pipe; answers = said-now }) r
+        → Inv now-side r
     unfolding appended
     put-inv ranged full room =
-        mk-live l r (record { end = put; pipe = l .pipe; answers = said-now }) r v p is (put-kept ranged full room)
+        mk-live l r now-side r v p is (put-kept ranged full room)
         (record {
           frames = v .lr .frames ++ fs;
           got = v .lr .got;
@@ -172,25 +175,7 @@ module _ (l r : Side) (v : Inv l r) (fs : List Frame) (bytes : List ℕ) (is-byt
           sender = put-sender;
           reader = v .lr .reader;
         })
-        (record {
-          frames = v .rl .frames;
-          got = v .rl .got;
-          rest = v .rl .rest;
-          part = v .rl .part;
-          lost = v .rl .lost;
-          split = v .rl .split;
-          toward = v .rl .toward;
-          wire = v .rl .wire;
-          sender = v .rl .sender;
-          reader =
-          record {
-            spot = v .rl .reader .spot;
-            waits = v .rl .reader .waits;
-            hands = v .rl .reader .hands;
-            heard = heard;
-            says = v .rl .reader .says;
-          };
-        })
+        (hears r l now-side (v .q) (v .p) p (v .rl) (v .rl .toward) (v .rl .sender) (heard-as p (v .rl .reader) heard))
         refl refl refl refl lives lives'
 
 -- ---- the waiting reply moves: a list of frames, which has one of them or none

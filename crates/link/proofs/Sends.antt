@@ -34,7 +34,7 @@ use Rattle.steady.proofs.Parts.{range-state, range-reply}
 use Rattle.utf8.specs.Progress.{progressAfter, isWhole}
 use Rattle.link.specs.Demand.{FitsOther, NoneWaits}
 use Rattle.link.specs.System.{Item, item, End, Answers, Side, Keys, four, masks, sent, textTo, binaryTo, pingTo, pongTo, closeTo}
-use Rattle.link.proofs.Direction.{Phase, active, byUs, byPeer, acked, over, number, isOver, over-number, Link, Heard, loadOf, Sound, caller, Knows, FrameKnows, Inv}
+use Rattle.link.proofs.Direction.{Phase, active, byUs, byPeer, acked, over, number, isOver, over-number, Link, Heard, loadOf, Sound, caller, Knows, FrameKnows, speaks, hears, heard-as, Inv}
 use Rattle.link.proofs.FrameBack.{front-laid}
 use Rattle.link.proofs.Frames.{Frame, bytesOf, one-wire, nothing, itemsOf, one-told, LoadFits, hasClose, one-close, one-last}
 use Rattle.link.proofs.Puts.{outEnd, atOut, mk-live, put-inv, move-inv}
@@ -213,7 +213,8 @@ module _ (l r : Side) (v : Inv l r) (a : Active l r v) where
       → inRange (withReply (l .end .session) q) ≡ true → length (q .payload) ≡ 125 → Inv (atOut l (out (withReply (l .end .session) q) (l .end .output))) r
   reply-inv q link sound knows ranged full =
       let x = v .lr .sender in
-      mk-live l r (atOut l (out (withReply (l .end .session) q) (l .end .output))) r v active (a .state)
+      let now-side : Side = atOut l (out (withReply (l .end .session) q) (l .end .output)) in
+      mk-live l r now-side r v active (a .state)
       (record {
         shaped = (v .kept-l .shaped .0, full);
         ranged = ranged;
@@ -221,49 +222,20 @@ module _ (l r : Side) (v : Inv l r) (a : Active l r v) where
         room = v .kept-l .room;
         wide = v .kept-l .wide;
       })
+      (speaks l now-side r (v .p) active (v .q) (v .lr) (v .lr .lost) (v .lr .toward) (v .lr .wire)
       (record {
-        frames = v .lr .frames;
-        got = v .lr .got;
-        rest = v .lr .rest;
-        part = v .lr .part;
-        lost = v .lr .lost;
-        split = v .lr .split;
-        toward = v .lr .toward;
-        wire = v .lr .wire;
-        sender =
-        record {
-          valid = x .valid;
-          last = x .last;
-          link = subst (Link active (q .waiting)) (sym (a .none)) link;
-          sound = sound;
-          accepts = x .accepts;
-          asks = x .asks;
-          shut = x .shut;
-          late = λ h o. never o refl;
-          knows = knows;
-          pongs = x .pongs;
-        };
-        reader = v .lr .reader;
-      })
-      (record {
-        frames = v .rl .frames;
-        got = v .rl .got;
-        rest = v .rl .rest;
-        part = v .rl .part;
-        lost = v .rl .lost;
-        split = v .rl .split;
-        toward = v .rl .toward;
-        wire = v .rl .wire;
-        sender = v .rl .sender;
-        reader =
-        record {
-          spot = v .rl .reader .spot;
-          waits = v .rl .reader .waits;
-          hands = v .rl .reader .hands;
-          heard = a .unheard;
-          says = v .rl .reader .says;
-        };
-      })
+        valid = x .valid;
+        last = x .last;
+        link = subst (Link active (q .waiting)) (sym (a .none)) link;
+        sound = sound;
+        accepts = x .accepts;
+        asks = x .asks;
+        shut = x .shut;
+        late = λ h o. never o refl;
+        knows = knows;
+        pongs = x .pongs;
+      }))
+      (hears r l now-side (v .q) (v .p) active (v .rl) (v .rl .toward) (v .rl .sender) (heard-as active (v .rl .reader) (a .unheard)))
       refl refl refl refl (a .lives) refl
 
 -- a pong where no close waits

@@ -24,7 +24,7 @@ use Rattle.steady.proofs.Again.{either-not}
 use Rattle.steady.proofs.Headers.{never}
 use Rattle.steady.proofs.Parts.{range-held}
 use Rattle.link.specs.System.{End, Pipe, Side, givenBytes, taken, cutAt}
-use Rattle.link.proofs.Direction.{heldOf, Wire, Inv}
+use Rattle.link.proofs.Direction.{heldOf, Wire, speaks, hears, Inv}
 use Rattle.link.proofs.FrameBack.{front-laid}
 use Rattle.link.proofs.Frames.{Frame}
 
@@ -57,8 +57,11 @@ module _ (l r : Side) (v : Inv l r) (held : ℕ) (output bytes : List ℕ) where
   abbrev end' : End
   end' = record { session = withHeld (l .end .session) held; message = l .end .message; control = l .end .control; output = output }
 
+  abbrev now-side : Side
+  now-side = record { end = end'; pipe = onPipe (l .pipe) bytes; answers = l .answers }
+
   hand-inv : length output ≡ length (l .end .output) → held ≤ length output → heldOf (l .end) ≡ bytes ++ take held output
-      → Inv (record { end = end'; pipe = onPipe (l .pipe) bytes; answers = l .answers }) r
+      → Inv now-side r
   hand-inv size room e =
       let k = v .kept-l in
       record {
@@ -82,31 +85,9 @@ module _ (l r : Side) (v : Inv l r) (held : ℕ) (output bytes : List ℕ) where
         };
         kept-r = v .kept-r;
         lr =
-        record {
-          frames = v .lr .frames;
-          got = v .lr .got;
-          rest = v .lr .rest;
-          part = v .lr .part;
-          lost = pick (l .pipe .cut) (v .lr .lost ++ bytes) (v .lr .lost);
-          split = v .lr .split;
-          toward = v .lr .toward;
-          wire = wire-taken bytes (take held output) e (v .lr .wire);
-          sender = v .lr .sender;
-          reader = v .lr .reader;
-        };
-        rl =
-        record {
-          frames = v .rl .frames;
-          got = v .rl .got;
-          rest = v .rl .rest;
-          part = v .rl .part;
-          lost = v .rl .lost;
-          split = v .rl .split;
-          toward = v .rl .toward;
-          wire = v .rl .wire;
-          sender = v .rl .sender;
-          reader = v .rl .reader;
-        };
+        speaks l now-side r (v .p) (v .p) (v .q) (v .lr) (pick (l .pipe .cut) (v .lr .lost ++ bytes) (v .lr .lost)) (v .lr .toward)
+        (wire-taken bytes (take held output) e (v .lr .wire)) (v .lr .sender);
+        rl = hears r l now-side (v .q) (v .p) (v .p) (v .rl) (v .rl .toward) (v .rl .sender) (v .rl .reader);
         fin-l = record { ends = v .fin-l .ends };
         fin-r = record { ends = v .fin-r .ends };
       }
@@ -182,31 +163,8 @@ cut-inv l r v n =
       kept-l = v .kept-l;
       kept-r = v .kept-r;
       lr =
-      record {
-        frames = v .lr .frames;
-        got = v .lr .got;
-        rest = v .lr .rest;
-        part = v .lr .part;
-        lost = drop n (l .pipe .bytes) ++ v .lr .lost;
-        split = v .lr .split;
-        toward = v .lr .toward;
-        wire = wire-cut n (v .lr .wire);
-        sender = v .lr .sender;
-        reader = v .lr .reader;
-      };
-      rl =
-      record {
-        frames = v .rl .frames;
-        got = v .rl .got;
-        rest = v .rl .rest;
-        part = v .rl .part;
-        lost = v .rl .lost;
-        split = v .rl .split;
-        toward = v .rl .toward;
-        wire = v .rl .wire;
-        sender = v .rl .sender;
-        reader = v .rl .reader;
-      };
+      speaks l (cutAt l n) r (v .p) (v .p) (v .q) (v .lr) (drop n (l .pipe .bytes) ++ v .lr .lost) (v .lr .toward) (wire-cut n (v .lr .wire)) (v .lr .sender);
+      rl = hears r l (cutAt l n) (v .q) (v .p) (v .p) (v .rl) (v .rl .toward) (v .rl .sender) (v .rl .reader);
       fin-l = record { ends = λ c. never refl c };
       fin-r = record { ends = λ d c. never refl c };
     }
