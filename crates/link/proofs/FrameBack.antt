@@ -1,17 +1,17 @@
 -- A frame that was written is read back: its payload in the store of its kind, and its event.
 use mathlib.Core.Path.{_≡_, refl, sym, ap, ap₂, _∙_}
-use mathlib.Core.Bool.{Bool, true, false, not}
+use mathlib.Core.Bool.{Bool, true, false}
 use mathlib.Core.List.{List, [], _∷_, append-nil}
 use Prim.Native.Nat.{ℕ, _+_, _%_, _<_, _≤_}
 use native.Mathlib.Nat.{zero-add}
 use native.Mathlib.Omega.{arith}
-use lib.Dec.{eqb, ltb}
+use lib.Dec.{eqb}
 use lib.ListN.{length, take, length-append}
 use borrow.Author.Tests.{eq-eqb, eqb-true, eqb-false, lt-ltb, le-leb, ne-eqb}
 use Rattle.base.specs.Bytes.{part}
 use Rattle.base.specs.Stores.{laid}
 use Rattle.base.specs.Table.{pick}
-use Rattle.base.specs.Tests.{both, either, Test, _when_, firstOf}
+use Rattle.base.specs.Tests.{firstOf}
 use Rattle.base.proofs.Choice.{by-test}
 use Rattle.base.proofs.Stores.{laid-none, laid-part}
 use Rattle.base.proofs.Tests.{first-pass}
@@ -33,8 +33,7 @@ use Rattle.session.specs.declared.Answer.{Answer}
 use Rattle.session.specs.declared.Answer.the-variants.{More, Text as TextEvent, Binary as BinaryEvent}
 use Rattle.session.specs.declared.Incoming.{Incoming}
 use Rattle.session.specs.declared.Settings.{Settings}
-use Rattle.session.specs.Frames.{kept, headerWhole, frame, isControl, isClose, isCloseKind, isContinue, isData, isText, isTextKind, isContinueKind, headerTests, before, progressNow, doomTests, doom, reasonHolds, textHolds, utfTest, verdict}
-use Rattle.session.specs.Session.{isServer, isClient, isPeerClosed}
+use Rattle.session.specs.Frames.{kept, headerWhole, frame, isControl, isCloseKind, isText, isTextKind, isContinueKind, headerTests, before, progressNow, doomTests, doom, reasonHolds, textHolds, utfTest, verdict}
 use Rattle.utf8.specs.Progress.{progressAfter, isWhole}
 use Rattle.session.specs.Reading.{World, world, At, after, keep, counts, plain, stored, between as betweenFrames, controlEvent, ended, refuse, finish, rest, feed}
 use Rattle.session.specs.Replies.{frameHeader, encoded}
@@ -67,22 +66,7 @@ begun-all i bs = message-all i bs .begun
 doom-same : (g : Settings) (state : ℕ) (f : FrameHeader) (i j : Incoming) → j .begun ≡ i .begun → j .fragments ≡ i .fragments
     → doomTests g state f j ≡ doomTests g state f i
 unfolding doomTests before
-doom-same g state f i j x y =
-    ap₂ (λ (b : Bool) (n : ℕ). tests b n) x y
-  where
-    tests : Bool → ℕ → List Test
-    tests b n =
-        (5 when both (isServer g) (both (not (f .masked)) (not (g .unmasked))))
-        ∷ (6 when both (isClient g) (isPeerClosed state))
-        ∷ (7 when either (f .rsv1) (either (f .rsv2) (f .rsv3)))
-        ∷ (8 when both (isClient g) (f .masked))
-        ∷ (9 when both (isControl (f .opcode)) (not (f .fin)))
-        ∷ (10 when both (isControl (f .opcode)) (ltb 125 (f .length)))
-        ∷ (11 when both (isClose (f .opcode)) (eqb (f .length) 1))
-        ∷ (13 when both (isContinue (f .opcode)) (not b))
-        ∷ (14 when both (isData (f .opcode)) (both (not (isContinue (f .opcode))) b))
-        ∷ (15 when both (isData (f .opcode)) (ltb (g .message) (pick b n 0 + f .length)))
-        ∷ []
+doom-same g state f i j x y = rw (x, y)
 
 -- ---- data: the event of a kind, and that 12 lets valid text pass
 abbrev pub dataEvent : DataKind → ℕ → Answer

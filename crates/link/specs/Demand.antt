@@ -26,8 +26,9 @@ pub record Fit (g : Lends) : Type 0 where
   pub control-store : 125 ≤ length (g .controlStore)
   pub output-store : 131 ≤ length (g .outputStore)
 
--- ---- each act of the left side. That the stores are "the same" and "unaltered" and the session "the latest" needs no premise: an act has no
--- other to use. Nor has that reads are offered the next bytes, and the end flag only where the pipe ends
+-- ---- each act of the left side. Some of the demand's words need no premise, since an act has nothing else to use: the stores are "the same"
+-- and "unaltered", the session is "the latest", a read is offered "the next bytes of its pipe, and the end flag only where the pipe ends behind
+-- them", and "an end that is Terminated ends its pipe behind its last byte" (System.antt)
 -- "each message fits the other's limits": of the messages that were accepted
 abbrev pub FitsOther : End → Sending → List ℕ → Type 0
 FitsOther other u p =
