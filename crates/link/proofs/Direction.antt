@@ -274,10 +274,10 @@ module _ (x y : Side) (p q : Phase) (d : Dir x y p q) where
       record {
         others = told (openAll nothing (d .got)) (d .rest);
         joined =
-        ap (λ (l : List Item). l ++ told (openAll nothing (d .got)) (d .rest)) (d .reader .hands)
-        ∙ sym (told-append nothing (d .got) (d .rest))
-        ∙ ap (told nothing) (d .split)
-        ∙ sym (d .sender .accepts);
+            ap (λ (l : List Item). l ++ told (openAll nothing (d .got)) (d .rest)) (d .reader .hands)
+            ∙ sym (told-append nothing (d .got) (d .rest))
+            ∙ ap (told nothing) (d .split)
+            ∙ sym (d .sender .accepts);
       }
 
   -- where a close was got, all was got

@@ -187,9 +187,15 @@ module _ (l r : Side) (v : Inv l r) (lives : isOver (v .p) ≡ false) (n : ℕ)
       (subst (Heard (v .p)) (sym (ap isClose is ∙ open')) heard) kept
 
   data-aim : (d : DataKind) → f .op ≡ Data d → LoadFits (s .settings) (Data d) (f .load) → shown (dataEvent d size) m c ≡ f .load → Aim (plain-by (dataEvent d size))
-  data-aim Continue is fits payload kept = quiet (Data Continue) (Binary size) is refl fits refl (ap (λ (p : List ℕ). item 3 p ∷ []) (part-is (Binary size) m c (f .load) payload refl)) (kept (v .kept-l .unrefused))
-  data-aim TextFrame is fits payload kept = quiet (Data TextFrame) (Text size) is refl fits refl (ap (λ (p : List ℕ). item 2 p ∷ []) (part-is (Text size) m c (f .load) payload refl)) (kept (v .kept-l .unrefused))
-  data-aim BinaryFrame is fits payload kept = quiet (Data BinaryFrame) (Binary size) is refl fits refl (ap (λ (p : List ℕ). item 3 p ∷ []) (part-is (Binary size) m c (f .load) payload refl)) (kept (v .kept-l .unrefused))
+  data-aim Continue is fits payload kept =
+      quiet (Data Continue) (Binary size) is refl fits refl (ap (λ (p : List ℕ). item 3 p ∷ []) (part-is (Binary size) m c (f .load) payload refl))
+      (kept (v .kept-l .unrefused))
+  data-aim TextFrame is fits payload kept =
+      quiet (Data TextFrame) (Text size) is refl fits refl (ap (λ (p : List ℕ). item 2 p ∷ []) (part-is (Text size) m c (f .load) payload refl))
+      (kept (v .kept-l .unrefused))
+  data-aim BinaryFrame is fits payload kept =
+      quiet (Data BinaryFrame) (Binary size) is refl fits refl (ap (λ (p : List ℕ). item 3 p ∷ []) (part-is (Binary size) m c (f .load) payload refl))
+      (kept (v .kept-l .unrefused))
 
   pong-aim : f .op ≡ Control PongFrame → LoadFits (s .settings) (Control PongFrame) (f .load) → Aim (plain-by (Pong size))
   pong-aim is fits kept = quiet (Control PongFrame) (Pong size) is refl fits refl refl (kept (v .kept-l .unrefused))

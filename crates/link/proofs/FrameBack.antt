@@ -7,6 +7,7 @@ use native.Mathlib.Nat.{zero-add}
 use native.Mathlib.Omega.{arith}
 use lib.Dec.{eqb}
 use lib.ListN.{length, take, length-append}
+use borrow.Author.Needs.{needs}
 use borrow.Author.Tests.{eq-eqb, eqb-true, eqb-false, lt-ltb, le-leb, ne-eqb}
 use Rattle.base.specs.Bytes.{part}
 use Rattle.base.specs.Stores.{laid}
@@ -129,7 +130,7 @@ verdict-clear : (g : Settings) (state : ℕ) (f : FrameHeader) (i : Incoming) (c
 unfolding verdict doomTests
 verdict-clear g state f i control h k =
     first-pass (doomTests g state f i) (utfTest f i control ∷ [])
-    ((λ e. absurd (omega arith)), ((λ e. absurd (omega arith)), ((λ e. absurd (omega arith)), ((λ e. absurd (omega arith)), ((λ e. absurd (omega arith)), ((λ e. absurd (omega arith)), ((λ e. absurd (omega arith)), ((λ e. absurd (omega arith)), ((λ e. absurd (omega arith)), ((λ e. absurd (omega arith)), tt)))))))))) h
+    (search needs) h
     ∙ k
 
 -- masked twice, or not at all

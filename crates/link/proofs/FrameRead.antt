@@ -123,11 +123,11 @@ module _ (g : Settings) (client : Bool) (toward : Toward client g) (i : Incoming
         answers = data-answers d (length p);
         payload = data-shown d m c p (omega (arith, h .1));
         fed =
-        data-back g 0 client (Data d) mask four p i between m c (data-number d) few d refl (h .0) new
-        (data-admitted g 0 client (length p) (toward .to-server) (toward .to-client) open-now d come (h .0)
-        (begun-all i (headerBytes f mask) ∙ new) (h .1))
-        (h .2)
-        (header-admitted g 0 client (length p) (toward .to-server) (toward .to-client) open-now (Data d) refl short);
+            data-back g 0 client (Data d) mask four p i between m c (data-number d) few d refl (h .0) new
+            (data-admitted g 0 client (length p) (toward .to-server) (toward .to-client) open-now d come (h .0)
+            (begun-all i (headerBytes f mask) ∙ new) (h .1))
+            (h .2)
+            (header-admitted g 0 client (length p) (toward .to-server) (toward .to-client) open-now (Data d) refl short);
       }
 
   read-control : (k : ControlKind) → LoadFits g (Control k) p → Read g (Control k) p (encoded client (Control k) mask p) i m c
@@ -142,10 +142,10 @@ module _ (g : Settings) (client : Bool) (toward : Toward client g) (i : Incoming
         answers = control-answers k (length p);
         payload = control-shown k m c p (omega (arith, h .0));
         fed =
-        control-back g 0 client (Control k) mask four p i between m c (control-number k) few k refl
-        (control-admitted g 0 client (length p) (toward .to-server) (toward .to-client) open-now k come (h .0) (λ t. h .1 t .0))
-        (omega (arith, h .0)) (λ t. h .1 t .1)
-        (header-admitted g 0 client (length p) (toward .to-server) (toward .to-client) open-now (Control k) refl short);
+            control-back g 0 client (Control k) mask four p i between m c (control-number k) few k refl
+            (control-admitted g 0 client (length p) (toward .to-server) (toward .to-client) open-now k come (h .0) (λ t. h .1 t .0))
+            (omega (arith, h .0)) (λ t. h .1 t .1)
+            (header-admitted g 0 client (length p) (toward .to-server) (toward .to-client) open-now (Control k) refl short);
       }
 
   read-op : (op : OpCode) → LoadFits g op p → Read g op p (encoded client op mask p) i m c
@@ -264,14 +264,14 @@ module _ (g : Settings) (client : Bool) (toward : Toward client g) (part : List 
             control = now .world .control;
             comes = ap₂ (λ (w : World) (n : ℕ). after w n) (sym same) count;
             spot =
-            record {
-              first = spot .first;
-              between = spot .between;
-              new = spot .new;
-              room-m = spot .room-m;
-              room-c = spot .room-c;
-              fed = on piece ∙ ap₂ (λ (w : World) (n : ℕ). after w n) (sym same) (ap (λ (n : ℕ). length part + n) count ∙ sym sum);
-            };
+                record {
+                  first = spot .first;
+                  between = spot .between;
+                  new = spot .new;
+                  room-m = spot .room-m;
+                  room-c = spot .room-c;
+                  fed = on piece ∙ ap₂ (λ (w : World) (n : ℕ). after w n) (sym same) (ap (λ (n : ℕ). length part + n) count ∙ sym sum);
+                };
           }
 
       -- the frame's last bytes are the piece's first
@@ -299,10 +299,10 @@ module _ (g : Settings) (client : Bool) (toward : Toward client g) (part : List 
             event = read .event;
             payload = read .payload;
             comes =
-            ap (feed g 0 here) (sym d)
-            ∙ feed-append g 0 here front back
-            ∙ ap (λ (x : At). feed g 0 x back) stops
-            ∙ feed-stopped g 0 (after (read .left) (length front)) back (read .answers);
+                ap (feed g 0 here) (sym d)
+                ∙ feed-append g 0 here front back
+                ∙ ap (λ (x : At). feed g 0 x back) stops
+                ∙ feed-stopped g 0 (after (read .left) (length front)) back (read .answers);
           }
 
       through : length all ≤ length part + length piece → Ends client part piece more (f ∷ fs) now

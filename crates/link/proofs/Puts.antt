@@ -65,11 +65,11 @@ mk-live l r l' r' v p is kept a b he hs hl hr o o' =
       rl = b;
       fin-l = record { ends = λ c d e. never e o' };
       fin-r =
-      record {
-        ends = λ c d e.
-        let f = v .fin-r .ends (sym hr ∙ c) (sym hl ∙ d) e in
-        (hs ∙ f .0, λ s. never (f .1 (sym (ap (λ (e : End). isServer (e .session .settings)) he) ∙ s)) o);
-      };
+          record {
+            ends = λ c d e.
+                let f = v .fin-r .ends (sym hr ∙ c) (sym hl ∙ d) e in
+                (hs ∙ f .0, λ s. never (f .1 (sym (ap (λ (e : End). isServer (e .session .settings)) he) ∙ s)) o);
+          };
     }
 
 -- ---- frames are put out, by a sending call or of what waited: one of them, or more
@@ -94,12 +94,12 @@ module _ (l r : Side) (v : Inv l r) (fs : List Frame) (bytes : List ℕ) (is-byt
         ranged = range-held (turned s state reply) (s .held + length bytes) ranged;
         unrefused = k .unrefused;
         room =
-        record {
-          for-message = k .room .for-message;
-          for-control = k .room .for-control;
-          for-output = omega (arith, length-laid (l .end .output) (s .held) bytes, k .room .for-output);
-          for-held = omega (arith, length-laid (l .end .output) (s .held) bytes);
-        };
+            record {
+              for-message = k .room .for-message;
+              for-control = k .room .for-control;
+              for-output = omega (arith, length-laid (l .end .output) (s .held) bytes, k .room .for-output);
+              for-held = omega (arith, length-laid (l .end .output) (s .held) bytes);
+            };
         wide = k .wide;
       }
 
@@ -115,16 +115,16 @@ module _ (l r : Side) (v : Inv l r) (fs : List Frame) (bytes : List ℕ) (is-byt
       let held : List ℕ = heldOf (l .end) in
       record {
         flow =
-        ap (λ (b : List ℕ). v .lr .part ++ (l .pipe .bytes ++ (v .lr .lost ++ b))) (put-held room)
-        ∙ sym (shift (v .lr .part) (l .pipe .bytes) (v .lr .lost) held)
-        ∙ ap₂ (λ (b c : List ℕ). b ++ c) (w .flow) is-bytes
-        ∙ sym (wires-append client (v .lr .rest) fs);
+            ap (λ (b : List ℕ). v .lr .part ++ (l .pipe .bytes ++ (v .lr .lost ++ b))) (put-held room)
+            ∙ sym (shift (v .lr .part) (l .pipe .bytes) (v .lr .lost) held)
+            ∙ ap₂ (λ (b c : List ℕ). b ++ c) (w .flow) is-bytes
+            ∙ sym (wires-append client (v .lr .rest) fs);
         whole = w .whole;
         given =
-        ap (λ (b : List ℕ). l .pipe .given ++ b) (put-held room)
-        ∙ sym (append-assoc (l .pipe .given) held bytes)
-        ∙ ap₂ (λ (b c : List ℕ). b ++ c) (w .given) is-bytes
-        ∙ sym (wires-append client (v .lr .frames) fs);
+            ap (λ (b : List ℕ). l .pipe .given ++ b) (put-held room)
+            ∙ sym (append-assoc (l .pipe .given) held bytes)
+            ∙ ap₂ (λ (b c : List ℕ). b ++ c) (w .given) is-bytes
+            ∙ sym (wires-append client (v .lr .frames) fs);
       }
     where
       shift : (a b c d : List ℕ) → (a ++ (b ++ (c ++ d))) ++ bytes ≡ a ++ (b ++ (c ++ (d ++ bytes)))
@@ -150,7 +150,7 @@ module _ (l r : Side) (v : Inv l r) (fs : List Frame) (bytes : List ℕ) (is-byt
           link = subst (Link p (reply .waiting)) (sym has-put) link;
           sound = sound;
           accepts =
-          counted ∙ ap (λ (a : List Item). a ++ told nothing fs) (x .accepts) ∙ sym (told-on (r .end .session .settings) (v .lr .frames) fs (x .valid));
+              counted ∙ ap (λ (a : List Item). a ++ told nothing fs) (x .accepts) ∙ sym (told-on (r .end .session .settings) (v .lr .frames) fs (x .valid));
           asks = λ k. has-put ∙ asks k;
           shut = λ a b. never (x .shut a b) none;
           late = λ a b. never b lives';
@@ -244,14 +244,15 @@ module _ (l r : Side) (v : Inv l r) (mask : List ℕ) (four : length mask ≡ 4)
       let x = v .lr .sender in
       let load : List ℕ = loadOf (now .reply) in
       let free = reply-open (v .p) waiting (hasClose (v .lr .frames)) lives h (x .link) in
-      put-inv l r v (frame ∷ []) (replyFrame now mask) reply-bytes
-      (record {
-        whole = refl;
-        four = four;
-        short = omega (arith, reply-short waiting load h (x .sound), v .kept-r .wide);
-        fits = reply-fits (r .end .session .settings) waiting load h (x .sound);
-      }
-      , tt)
+      put-inv l r v (frame ∷ []) (replyFrame now mask) reply-bytes (
+        record {
+          whole = refl;
+          four = four;
+          short = omega (arith, reply-short waiting load h (x .sound), v .kept-r .wide);
+          fits = reply-fits (r .end .session .settings) waiting load h (x .sound);
+        },
+        tt,
+      )
       (one-last frame) (free .0) lives (now .state) (noReply (now .reply)) (v .p) (v .is-p) (l .answers .accepted) (l .answers .asked)
       (subst (Link (v .p) NoReply) (sym (one-close frame)) (free .1)) tt
       (sym (append-nil (l .answers .accepted))

@@ -78,10 +78,11 @@ module _ (l r : Side) (v : Inv l r) (lives : isOver (v .p) ≡ false) (n : ℕ) 
       ((λ kept. more-inv l r v lives n w (kept (v .kept-l .unrefused))), λ k e. absurd (no-answer k e))
   go true h (within w) =
       let t = at-end h in
-      subst (λ (u : Read). Aim u × OnlyCut l r (u .turn .answer)) (sym (within-end w))
-      ((λ kept. end-inv l r v lives n w (t .0) (t .1) goes-on close-moved (kept (v .kept-l .unrefused)))
-      , λ k e.
-      let x = sixteen (isPeerClosed (s .state)) k e in (x .0, end-cut l r v lives n w (t .0) (t .1) goes-on close-moved (x .1)))
+      subst (λ (u : Read). Aim u × OnlyCut l r (u .turn .answer)) (sym (within-end w)) (
+        (λ kept. end-inv l r v lives n w (t .0) (t .1) goes-on close-moved (kept (v .kept-l .unrefused))),
+        λ k e.
+            let x = sixteen (isPeerClosed (s .state)) k e in (x .0, end-cut l r v lives n w (t .0) (t .1) goes-on close-moved (x .1)),
+      )
 
   pub on-inv : Aim (says flag) × OnlyCut l r (says flag .turn .answer)
   on-inv = go flag refl (come l r v lives n)
@@ -254,7 +255,7 @@ module _ (l r : Side) (v : Inv l r) (n : ℕ) (want : Bool) (k : Keys) where
         two = λ h. refused-by 2 (ap (λ (b : Bool). pick b 2 (pick stuck 19 0)) h) (λ z. absurd (omega arith));
         by-nineteen = λ h. ⊎-elim (λ a. absurd (omega (arith, a .0))) (λ x. ⊎-elim (λ b. absurd (omega (arith, b .0))) (λ c. c .1) x) (told 19 h);
         nineteen = λ h.
-        let lives : over' ≡ false = by-test over' (λ t. never h (none-stuck t)) (λ t. t) in
-        refused-by 19 (ap₂ (λ (a b : Bool). pick a 2 (pick b 19 0)) lives h) (λ z. absurd (omega arith));
+            let lives : over' ≡ false = by-test over' (λ t. never h (none-stuck t)) (λ t. t) in
+            refused-by 19 (ap₂ (λ (a b : Bool). pick a 2 (pick b 19 0)) lives h) (λ z. absurd (omega arith));
         by-sixteen = λ h. ⊎-elim (λ a. absurd (omega (arith, a .0))) (λ x. ⊎-elim (λ b. b .1) (λ c. absurd (omega (arith, c .0))) x) (told 16 h);
       }

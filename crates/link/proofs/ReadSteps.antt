@@ -71,7 +71,9 @@ link-closed over w c z k h = never z refl
 pub other-over : (r : Side) (q : Phase) → r .end .session .state ≡ number q → ended r ≡ true → r .pipe .cut ≡ false → (isOver q ≡ true) × (heldOf (r .end) ≡ [])
 unfolding ended
 other-over r q is h whole =
-    let b = both-parts (eqb (r .end .session .state) 4) (eqb (r .end .session .held) 0) (sym (ap (λ (t : Bool). either t (both (eqb (r .end .session .state) 4) (eqb (r .end .session .held) 0))) whole) ∙ h) in
+    let b =
+    both-parts (eqb (r .end .session .state) 4) (eqb (r .end .session .held) 0)
+    (sym (ap (λ (t : Bool). either t (both (eqb (r .end .session .state) 4) (eqb (r .end .session .held) 0))) whole) ∙ h) in
     (over-number q ∙ ap (λ (k : ℕ). eqb k 4) (sym is) ∙ b .0, ap (λ (k : ℕ). take k (r .end .output)) (eqb-true (r .end .session .held) 0 (b .1)))
 
 -- the session at another state, with another reply, and with more come
@@ -127,49 +129,49 @@ module _ (l r : Side) (v : Inv l r) where
           kept-l = kept;
           kept-r = v .kept-r;
           lr =
-          record {
-            frames = v .lr .frames;
-            got = v .lr .got;
-            rest = v .lr .rest;
-            part = v .lr .part;
-            lost = v .lr .lost;
-            split = v .lr .split;
-            toward = v .lr .toward;
-            wire = v .lr .wire;
-            sender =
-            record {
-              valid = x .valid;
-              last = x .last;
-              link = link;
-              sound = sound;
-              accepts = x .accepts;
-              asks = x .asks;
-              shut = shut;
-              late = late;
-              knows = knows;
-              pongs = all-on (l .answers .handed) items (v .lr .frames) (x .pongs);
-            };
-            reader = v .lr .reader;
-          };
+              record {
+                frames = v .lr .frames;
+                got = v .lr .got;
+                rest = v .lr .rest;
+                part = v .lr .part;
+                lost = v .lr .lost;
+                split = v .lr .split;
+                toward = v .lr .toward;
+                wire = v .lr .wire;
+                sender =
+                    record {
+                      valid = x .valid;
+                      last = x .last;
+                      link = link;
+                      sound = sound;
+                      accepts = x .accepts;
+                      asks = x .asks;
+                      shut = shut;
+                      late = late;
+                      knows = knows;
+                      pongs = all-on (l .answers .handed) items (v .lr .frames) (x .pongs);
+                    };
+                reader = v .lr .reader;
+              };
           rl =
-          record {
-            frames = d .frames;
-            got = got;
-            rest = rest;
-            part = part;
-            lost = d .lost;
-            split = split;
-            toward = d .toward;
-            wire =
-            record {
-              flow =
-              ap (λ (b : List ℕ). part ++ (b ++ (d .lost ++ heldOf (r .end)))) (ap (drop (length front)) bytes ∙ drop-append-seam front behind) ∙ flow;
-              whole = d .wire .whole;
-              given = d .wire .given;
-            };
-            sender = d .sender;
-            reader = told-reader;
-          };
+              record {
+                frames = d .frames;
+                got = got;
+                rest = rest;
+                part = part;
+                lost = d .lost;
+                split = split;
+                toward = d .toward;
+                wire =
+                    record {
+                      flow =
+                          ap (λ (b : List ℕ). part ++ (b ++ (d .lost ++ heldOf (r .end)))) (ap (drop (length front)) bytes ∙ drop-append-seam front behind) ∙ flow;
+                      whole = d .wire .whole;
+                      given = d .wire .given;
+                    };
+                sender = d .sender;
+                reader = told-reader;
+              };
           fin-l = fin-l;
           fin-r = fin-r;
         }
@@ -329,11 +331,12 @@ module _ (l r : Side) (v : Inv l r) where
             by-test (isServer (r .end .session .settings)) (λ t. t) (λ t. never (f .1 t) lives) in
             let all-in : d .got ≡ d .frames =
             sym (append-nil (d .got)) ∙ ap (λ (b : List Frame). d .got ++ b) (sym (rest-got whole-r (over' .1))) ∙ d .split in
-            let got : hasClose (d .got) ≡ true = ap (λ (b : List Frame). hasClose b) all-in ∙ d .sender .shut server (f .0) in
-            (by-test peer-closed (λ t. t)
-            (λ t.
-            never got (heard-open (v .p) (hasClose (d .got)) lives (ap (λ (k : ℕ). isPeerClosed k) (sym (v .is-p)) ∙ t) (d .reader .heard)))
-            , over' .0)
+            let got : hasClose (d .got) ≡ true = ap (λ (b : List Frame). hasClose b) all-in ∙ d .sender .shut server (f .0) in (
+              by-test peer-closed (λ t. t)
+                  (λ t.
+                  never got (heard-open (v .p) (hasClose (d .got)) lives (ap (λ (k : ℕ). isPeerClosed k) (sym (v .is-p)) ∙ t) (d .reader .heard))),
+              over' .0,
+            )
 
         pub end-inv : Kept (endOf end-read) → Inv (reader l end-read) (readFrom r (length piece))
         unfolding reader readFrom
@@ -351,8 +354,8 @@ module _ (l r : Side) (v : Inv l r) where
             kept
             (record {
               ends = λ a b o.
-              let c = closes-well a b in
-              (ap (λ (t : Bool). either (l .answers .said) (isClosed (pick t Closed (Refused 16)))) (c .0) ∙ either-all (l .answers .said), λ h. c .1);
+                  let c = closes-well a b in
+                  (ap (λ (t : Bool). either (l .answers .said) (isClosed (pick t Closed (Refused 16)))) (c .0) ∙ either-all (l .answers .said), λ h. c .1);
             })
             (record { ends = λ b a o. (v .fin-r .ends b a o .0, λ h. refl) })
           where
@@ -430,7 +433,7 @@ module _ (l r : Side) (v : Inv l r) where
               spot = spot-between g (e .left .incoming) (e .left .message) c (e .between) (e .new) (kept .room .for-message) (kept .room .for-control);
               waits = waits;
               hands =
-              ap₂ (λ (x y : List Item). x ++ y) (d .reader .hands) shows ∙ sym (told-on g (d .got) (f ∷ []) valid-got ∙ ap (λ (i : List Item). told nothing (d .got) ++ i) (one-told f (valid-f .whole)));
+                  ap₂ (λ (x y : List Item). x ++ y) (d .reader .hands) shows ∙ sym (told-on g (d .got) (f ∷ []) valid-got ∙ ap (λ (i : List Item). told nothing (d .got) ++ i) (one-told f (valid-f .whole)));
               heard = subst (Heard p) (sym close-now) heard;
               says = λ b. never (d .reader .says (said-before (l .answers .said) (isClosed a) open' b)) none-before;
             })

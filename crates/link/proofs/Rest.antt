@@ -139,7 +139,11 @@ module _ (l r : Side) (v : Inv l r) (lives : isOver (v .p) ≡ false) (none : l 
       (not-four
       (sym (ap (λ (x : Session). x .state) (still .session k))
       ∙ ap (λ (u : Read). u .turn .session .state) call-is
-      ∙ ap₂ (λ (a b : Bool). pick (both a b) (read (turn Closed 0 (withState s 4)) (e .message) (e .control) (e .output)) (takeBytes s there (ended r) (e .message) (e .control) (e .output)) .turn .session .state) h t)))
+      ∙ ap₂
+      (λ (a b : Bool).
+      pick (both a b) (read (turn Closed 0 (withState s 4)) (e .message) (e .control) (e .output)) (takeBytes s there (ended r) (e .message) (e .control) (e .output)) .turn
+      .session .state)
+      h t)))
       (λ t. t)
 
   goes-on : both (isServer (s .settings)) (isPeerClosed (s .state)) ≡ false
@@ -177,7 +181,8 @@ module _ (l r : Side) (v : Inv l r) (lives : isOver (v .p) ≡ false) (none : l 
       (not-four
       (sym (ap (λ (x : Session). x .state) (still .session k))
       ∙ ap (λ (u : Read). u .turn .session .state) call-takes
-      ∙ ap (λ (x : At). outcome s (ended r) (e .output) x .turn .session .state) (fed-here ∙ ap (feed (s .settings) (s .state) (after (world (s .incoming) (e .message) (e .control) More) 0)) all-read)
+      ∙ ap (λ (x : At). outcome s (ended r) (e .output) x .turn .session .state)
+      (fed-here ∙ ap (feed (s .settings) (s .state) (after (world (s .incoming) (e .message) (e .control) More) 0)) all-read)
       ∙ ap (λ (b : Bool). outcome s b (e .output) (after (world (s .incoming) (e .message) (e .control) More) 0) .turn .session .state) t)))
       (λ t. t)
 

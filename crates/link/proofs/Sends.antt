@@ -69,7 +69,9 @@ pub record Active (l r : Side) (v : Inv l r) : Type 0 where
 pub in-active : (l r : Side) (v : Inv l r) → isActive (l .end .session .state) ≡ true → Active l r v
 in-active l r v h =
     let e : v .p ≡ active = active-is (v .p) (ap isActive (sym (v .is-p)) ∙ h) in
-    let k = link-active (l .end .session .reply .waiting) (hasClose (v .lr .frames)) (subst (λ (p : Phase). Link p (l .end .session .reply .waiting) (hasClose (v .lr .frames))) e (v .lr .sender .link)) in
+    let k =
+    link-active (l .end .session .reply .waiting) (hasClose (v .lr .frames))
+    (subst (λ (p : Phase). Link p (l .end .session .reply .waiting) (hasClose (v .lr .frames))) e (v .lr .sender .link)) in
     record {
       is = e;
       state = v .is-p ∙ ap number e;

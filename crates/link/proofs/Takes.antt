@@ -48,6 +48,7 @@ wire-taken {client} {frames} {rest} {part} {lost} {pipe} {held} bytes left e w =
         (append-assoc (pipe .bytes) bytes (lost ++ left)
         ∙ ap (λ (l : List ℕ). pipe .bytes ++ (bytes ++ (l ++ left))) (h refl)
         ∙ ap (λ (l : List ℕ). pipe .bytes ++ (l ++ (bytes ++ left))) (sym (h refl)))
+
     still : (t : Bool) → (t ≡ false → lost ≡ []) → t ≡ false → pick t (lost ++ bytes) lost ≡ []
     still true h k = never refl k
     still false h k = h k
@@ -70,23 +71,23 @@ module _ (l r : Side) (v : Inv l r) (held : ℕ) (output bytes : List ℕ) where
         is-p = v .is-p;
         is-q = v .is-q;
         kept-l =
-        record {
-          shaped = k .shaped;
-          ranged = range-held (l .end .session) held (k .ranged);
-          unrefused = k .unrefused;
-          room =
-          record {
-            for-message = k .room .for-message;
-            for-control = k .room .for-control;
-            for-output = omega (arith, k .room .for-output);
-            for-held = room;
-          };
-          wide = k .wide;
-        };
+            record {
+              shaped = k .shaped;
+              ranged = range-held (l .end .session) held (k .ranged);
+              unrefused = k .unrefused;
+              room =
+                  record {
+                    for-message = k .room .for-message;
+                    for-control = k .room .for-control;
+                    for-output = omega (arith, k .room .for-output);
+                    for-held = room;
+                  };
+              wide = k .wide;
+            };
         kept-r = v .kept-r;
         lr =
-        speaks l now-side r (v .p) (v .p) (v .q) (v .lr) (pick (l .pipe .cut) (v .lr .lost ++ bytes) (v .lr .lost)) (v .lr .toward)
-        (wire-taken bytes (take held output) e (v .lr .wire)) (v .lr .sender);
+            speaks l now-side r (v .p) (v .p) (v .q) (v .lr) (pick (l .pipe .cut) (v .lr .lost ++ bytes) (v .lr .lost)) (v .lr .toward)
+            (wire-taken bytes (take held output) e (v .lr .wire)) (v .lr .sender);
         rl = hears r l now-side (v .q) (v .p) (v .p) (v .rl) (v .rl .toward) (v .rl .sender) (v .rl .reader);
         fin-l = record { ends = v .fin-l .ends };
         fin-r = record { ends = v .fin-r .ends };
@@ -143,11 +144,11 @@ wire-cut {client} {frames} {rest} {part} {lost} {pipe} {held} n w =
     let gone : List ℕ = drop n (pipe .bytes) in
     record {
       flow =
-      ap (λ (b : List ℕ). part ++ b)
-      (ap (λ (b : List ℕ). kept ++ b) (append-assoc gone lost held)
-      ∙ sym (append-assoc kept gone (lost ++ held))
-      ∙ ap (λ (b : List ℕ). b ++ (lost ++ held)) (take-append-drop n (pipe .bytes)))
-      ∙ w .flow;
+          ap (λ (b : List ℕ). part ++ b)
+          (ap (λ (b : List ℕ). kept ++ b) (append-assoc gone lost held)
+          ∙ sym (append-assoc kept gone (lost ++ held))
+          ∙ ap (λ (b : List ℕ). b ++ (lost ++ held)) (take-append-drop n (pipe .bytes)))
+          ∙ w .flow;
       whole = λ e. never refl e;
       given = w .given;
     }
@@ -163,7 +164,7 @@ cut-inv l r v n =
       kept-l = v .kept-l;
       kept-r = v .kept-r;
       lr =
-      speaks l (cutAt l n) r (v .p) (v .p) (v .q) (v .lr) (drop n (l .pipe .bytes) ++ v .lr .lost) (v .lr .toward) (wire-cut n (v .lr .wire)) (v .lr .sender);
+          speaks l (cutAt l n) r (v .p) (v .p) (v .q) (v .lr) (drop n (l .pipe .bytes) ++ v .lr .lost) (v .lr .toward) (wire-cut n (v .lr .wire)) (v .lr .sender);
       rl = hears r l (cutAt l n) (v .q) (v .p) (v .p) (v .rl) (v .rl .toward) (v .rl .sender) (v .rl .reader);
       fin-l = record { ends = λ c. never refl c };
       fin-r = record { ends = λ d c. never refl c };

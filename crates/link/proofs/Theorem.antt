@@ -94,7 +94,7 @@ fresh-kept role g fit =
       ranged = subst (λ (s : Session). inRange s ≡ true) (new-is role g (fit .limits)) (new-range role (g .frame) (g .message) (g .unmasked));
       unrefused = refl;
       room =
-      record { for-message = fit .message-store; for-control = fit .control-store; for-output = fit .output-store; for-held = omega arith };
+          record { for-message = fit .message-store; for-control = fit .control-store; for-output = fit .output-store; for-held = omega arith };
       wide = fit .wide;
     }
 
@@ -115,26 +115,26 @@ fresh-dir x y g h fit toward =
       toward = toward;
       wire = record { flow = refl; whole = λ e. refl; given = refl };
       sender =
-      record {
-        valid = tt;
-        last = tt;
-        link = refl;
-        sound = tt;
-        accepts = refl;
-        asks = λ e. e;
-        shut = λ a e. e;
-        late = λ a e. refl;
-        knows = tt;
-        pongs = tt;
-      };
+          record {
+            valid = tt;
+            last = tt;
+            link = refl;
+            sound = tt;
+            accepts = refl;
+            asks = λ e. e;
+            shut = λ a e. e;
+            late = λ a e. refl;
+            knows = tt;
+            pongs = tt;
+          };
       reader =
-      record {
-        spot = spot-between (settings y h) noIncoming (h .messageStore) (h .controlStore) between-first refl (fit .message-store) (fit .control-store);
-        waits = λ e. never e (unread noIncoming between-first);
-        hands = refl;
-        heard = refl;
-        says = λ e. e;
-      };
+          record {
+            spot = spot-between (settings y h) noIncoming (h .messageStore) (h .controlStore) between-first refl (fit .message-store) (fit .control-store);
+            waits = λ e. never e (unread noIncoming between-first);
+            hands = refl;
+            heard = refl;
+            says = λ e. e;
+          };
     }
 
 first-inv : (c d : Lends) → Fit c → Fit d → Inv (freshMade Client c) (freshMade Server d)

@@ -82,9 +82,9 @@ sent x u items close =
       end = record { session = u .handed .session; message = x .end .message; control = x .end .control; output = u .output };
       pipe = x .pipe;
       answers =
-      pick (isDone (u .handed .sent))
-      (record { accepted = x .answers .accepted ++ items; handed = x .answers .handed; said = x .answers .said; asked = either (x .answers .asked) close })
-      (x .answers);
+          pick (isDone (u .handed .sent))
+          (record { accepted = x .answers .accepted ++ items; handed = x .answers .handed; said = x .answers .said; asked = either (x .answers .asked) close })
+          (x .answers);
     }
 
 -- ---- a take: the first n of the bytes that are shown as held go onto the pipe, and are lost where it was cut; a take that is refused gives
@@ -99,7 +99,7 @@ taken x n =
     record {
       end = record { session = u .handed .session; message = x .end .message; control = x .end .control; output = u .output };
       pipe =
-      record { given = x .pipe .given ++ bytes; bytes = pick (x .pipe .cut) (x .pipe .bytes) (x .pipe .bytes ++ bytes); cut = x .pipe .cut };
+          record { given = x .pipe .given ++ bytes; bytes = pick (x .pipe .cut) (x .pipe .bytes) (x .pipe .bytes ++ bytes); cut = x .pipe .cut };
       answers = x .answers;
     }
 
@@ -141,12 +141,12 @@ reader x r =
       end = record { session = r .turn .session; message = r .message; control = r .control; output = r .output };
       pipe = x .pipe;
       answers =
-      record {
-        accepted = x .answers .accepted;
-        handed = x .answers .handed ++ counted (r .turn .answer) (r .message) (r .control);
-        said = either (x .answers .said) (isClosed (r .turn .answer));
-        asked = x .answers .asked;
-      };
+          record {
+            accepted = x .answers .accepted;
+            handed = x .answers .handed ++ counted (r .turn .answer) (r .message) (r .control);
+            said = either (x .answers .said) (isClosed (r .turn .answer));
+            asked = x .answers .asked;
+          };
     }
 
 unfoldable pub readFrom : Side → ℕ → Side
@@ -219,12 +219,12 @@ unfoldable pub freshSide : Role → Lends → Side
 freshSide role g =
     record {
       end =
-      record {
-        session = newCall role (g .frame) (g .message) (g .unmasked) .session;
-        message = g .messageStore;
-        control = g .controlStore;
-        output = g .outputStore;
-      };
+          record {
+            session = newCall role (g .frame) (g .message) (g .unmasked) .session;
+            message = g .messageStore;
+            control = g .controlStore;
+            output = g .outputStore;
+          };
       pipe = record { given = []; bytes = []; cut = false };
       answers = record { accepted = []; handed = []; said = false; asked = false };
     }
