@@ -10,7 +10,6 @@ use Rattle.base.specs.Tests.{both, either}
 use Rattle.session.specs.Answers.{kind, partOf}
 use Rattle.session.specs.Calls.{Read, readCall, Sending, textCall, binaryCall, pingCall, pongCall, closeCall, heldPart, takeCall, newCall}
 use Rattle.session.specs.declared.Answer.{Answer}
-use Rattle.session.specs.declared.Answer.the-variants.{More, Text, Binary, Ping, Pong, Close, Closed, Refused}
 use Rattle.session.specs.declared.Closing.{Closing}
 use Rattle.session.specs.declared.Masks.{Masks}
 use Rattle.session.specs.declared.Role.{Role}
@@ -124,15 +123,9 @@ readBy x y n flag k =
 abbrev pub counted : Answer → List ℕ → List ℕ → List Item
 counted a message control = pick (within 2 4 (kind a)) (item (kind a) (partOf a message control) ∷ []) []
 
+-- the answer closed
 abbrev pub isClosed : Answer → Bool
-isClosed More = false
-isClosed (Text n) = false
-isClosed (Binary n) = false
-isClosed (Ping n) = false
-isClosed (Pong n) = false
-isClosed (Close n) = false
-isClosed Closed = true
-isClosed (Refused k) = false
+isClosed a = eqb (kind a) 7
 
 -- the side that read, and the side whose pipe was read
 unfoldable pub reader : Side → Read → Side
