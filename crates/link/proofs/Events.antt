@@ -169,7 +169,7 @@ module _ (l r : Side) (v : Inv l r) (lives : isOver (v .p) ≡ false) (n : ℕ)
   waits : (op : OpCode) → f .op ≡ op → LoadFits (s .settings) op (f .load) → Waits (s .settings) (e .left .incoming)
   waits op is fits =
       let fine' : FineWorld (s .settings) (e .left) = subst (λ (x : At). FineWorld (s .settings) (x .world)) (e .comes) (fine l r v lives n) in
-      fine' .waits (ap refusalOf (e .event ∙ ap (λ (o : OpCode). eventOf o size) is) ∙ unrefused-event (s .settings) op (f .load) fits)
+      fine' .waits (ap refusalOf (e .leaves .event ∙ ap (λ (o : OpCode). eventOf o size) is) ∙ unrefused-event (s .settings) op (f .load) fits)
 
   heard : Heard (v .p) false
   heard = subst (Heard (v .p)) (none-before l r v lives n e) (v .rl .reader .heard)
@@ -318,12 +318,12 @@ module _ (l r : Side) (v : Inv l r) (lives : isOver (v .p) ≡ false) (n : ℕ)
       let a : Answer = eventOf (f .op) size in
       let d : Concluded = conclude a (withIncoming s (e .left .incoming)) c in
       ap (outcome s flag (l .end .output)) (e .comes)
-      ∙ ap (λ (x : Answer). outcome s flag (l .end .output) (after (world (e .left .incoming) m c x) (length (e .front)))) (e .event)
+      ∙ ap (λ (x : Answer). outcome s flag (l .end .output) (after (world (e .left .incoming) m c x) (length (e .front)))) (e .leaves .event)
       ∙ ap (λ (t : Turn). read t m (d .control) (l .end .output))
       (flagged-answered flag d (length (e .front)) (conclude-more a (withIncoming s (e .left .incoming)) c ∙ no-more (f .op) (valid-f l r v lives n e .fits)))
 
   pub event-aim : (flag : Bool) → Aim (outcome s flag (l .end .output) (come-to l r v lives n))
-  event-aim flag = subst Aim (sym (told flag)) (op-aim (f .op) refl (valid-f l r v lives n e .fits) (e .payload))
+  event-aim flag = subst Aim (sym (told flag)) (op-aim (f .op) refl (valid-f l r v lives n e .fits) (e .leaves .payload))
 
   -- it is no refusal
   pub event-kind : (flag : Bool) → kind (outcome s flag (l .end .output) (come-to l r v lives n) .turn .answer) ≡ 8 → ⊥

@@ -78,14 +78,17 @@ eventOf (Control k) n = controlEvent k n
 eventOf (Reserved k) n = More
 
 -- what it leads to: its event, with its payload as that event's part, between two frames and with no message begun
-pub record Read (g : Settings) (op : OpCode) (p bytes : List ℕ) (i : Incoming) (m c : List ℕ) : Type 0 where
-  pub left : World
+pub record Leaves (op : OpCode) (p : List ℕ) (left : World) : Type 0 where
   pub between : Between (left .incoming)
   pub new : left .incoming .begun ≡ false
   pub event : left .answer ≡ eventOf op (length p)
   pub answers : isMore (left .answer) ≡ false
   pub payload : shown (eventOf op (length p)) (left .message) (left .control) ≡ p
-  pub fed : feed g 0 (after (world i m c More) 0) bytes ≡ after left (length bytes)
+
+record WholeRead (g : Settings) (op : OpCode) (p bytes : List ℕ) (i : Incoming) (m c : List ℕ) : Type 0 where
+  left : World
+  leaves : Leaves op p left
+  fed : feed g 0 (after (world i m c More) 0) bytes ≡ after left (length bytes)
 
 data-shown : (d : DataKind) (m c p : List ℕ) → length p ≤ length m → shown (dataEvent d (length p)) (laid m 0 p) c ≡ p
 data-shown Continue m c p h = front-laid m p h
@@ -111,17 +114,20 @@ module _ (g : Settings) (client : Bool) (toward : Toward client g) (i : Incoming
   few : length p < 18446744073709551616
   few = omega (arith, toward .limit)
 
-  read-data : (d : DataKind) → LoadFits g (Data d) p → Read g (Data d) p (encoded client (Data d) mask p) i m c
+  read-data : (d : DataKind) → LoadFits g (Data d) p → WholeRead g (Data d) p (encoded client (Data d) mask p) i m c
   read-data d h =
       let f : FrameHeader = frameHeader client (Data d) (length p) in
       let come : Incoming = keepAll i (headerBytes f mask) in
       record {
         left = world (betweenFrames come false false 0 0) (laid m 0 p) c (dataEvent d (length p));
-        between = record { header-size = header-kept i (headerBytes f mask) ∙ between .header-size; none-kept = refl; none-counted = refl };
-        new = refl;
-        event = refl;
-        answers = data-answers d (length p);
-        payload = data-shown d m c p (omega (arith, h .1));
+        leaves =
+            record {
+              between = record { header-size = header-kept i (headerBytes f mask) ∙ between .header-size; none-kept = refl; none-counted = refl };
+              new = refl;
+              event = refl;
+              answers = data-answers d (length p);
+              payload = data-shown d m c p (omega (arith, h .1));
+            };
         fed =
             data-back g 0 client (Data d) mask four p i between m c (data-number d) few d refl (h .0) new
             (data-admitted g 0 client (length p) (toward .to-server) (toward .to-client) open-now d come (h .0)
@@ -130,17 +136,20 @@ module _ (g : Settings) (client : Bool) (toward : Toward client g) (i : Incoming
             (header-admitted g 0 client (length p) (toward .to-server) (toward .to-client) open-now (Data d) refl short);
       }
 
-  read-control : (k : ControlKind) → LoadFits g (Control k) p → Read g (Control k) p (encoded client (Control k) mask p) i m c
+  read-control : (k : ControlKind) → LoadFits g (Control k) p → WholeRead g (Control k) p (encoded client (Control k) mask p) i m c
   read-control k h =
       let f : FrameHeader = frameHeader client (Control k) (length p) in
       let come : Incoming = keepAll i (headerBytes f mask) in
       record {
         left = world (betweenFrames come (come .begun) (come .text) (come .fragments) (come .progress)) m (laid c 0 p) (controlEvent k (length p));
-        between = record { header-size = header-kept i (headerBytes f mask) ∙ between .header-size; none-kept = refl; none-counted = refl };
-        new = begun-all i (headerBytes f mask) ∙ new;
-        event = refl;
-        answers = control-answers k (length p);
-        payload = control-shown k m c p (omega (arith, h .0));
+        leaves =
+            record {
+              between = record { header-size = header-kept i (headerBytes f mask) ∙ between .header-size; none-kept = refl; none-counted = refl };
+              new = begun-all i (headerBytes f mask) ∙ new;
+              event = refl;
+              answers = control-answers k (length p);
+              payload = control-shown k m c p (omega (arith, h .0));
+            };
         fed =
             control-back g 0 client (Control k) mask four p i between m c (control-number k) few k refl
             (control-admitted g 0 client (length p) (toward .to-server) (toward .to-client) open-now k come (h .0) (λ t. h .1 t .0))
@@ -148,7 +157,7 @@ module _ (g : Settings) (client : Bool) (toward : Toward client g) (i : Incoming
             (header-admitted g 0 client (length p) (toward .to-server) (toward .to-client) open-now (Control k) refl short);
       }
 
-  read-op : (op : OpCode) → LoadFits g op p → Read g op p (encoded client op mask p) i m c
+  read-op : (op : OpCode) → LoadFits g op p → WholeRead g op p (encoded client op mask p) i m c
   read-op (Data d) h = read-data d h
   read-op (Control k) h = read-control k h
   read-op (Reserved n) h = absurd h
@@ -188,10 +197,7 @@ pub record Ends (client : Bool) (part piece more : List ℕ) (rest' : List Frame
   pub whole : part ++ front ≡ bytesOf client frame
   pub on : back ++ more ≡ wires client frames
   pub left : World
-  pub between : Between (left .incoming)
-  pub new : left .incoming .begun ≡ false
-  pub event : left .answer ≡ eventOf (frame .op) (length (frame .load))
-  pub payload : shown (eventOf (frame .op) (length (frame .load))) (left .message) (left .control) ≡ frame .load
+  pub leaves : Leaves (frame .op) (frame .load) left
   pub comes : x ≡ after left (length front)
 
 pub data Came (g : Settings) (client : Bool) (part piece more : List ℕ) (rest' : List Frame) (x : At) : Type 0 where
@@ -213,7 +219,7 @@ module _ (g : Settings) (client : Bool) (toward : Toward client g) (part : List 
     abbrev all : List ℕ
     all = bytesOf client f
 
-    read : Read g (f .op) (f .load) all (spot .first .incoming) (spot .first .message) (spot .first .control)
+    read : WholeRead g (f .op) (f .load) all (spot .first .incoming) (spot .first .message) (spot .first .control)
     read =
         read-op g client toward (spot .first .incoming) (spot .between) (spot .new) (spot .first .message) (spot .first .control) (spot .room-m) (spot .room-c) (f .mask)
         (valid .four) (f .load) (valid .short) (f .op) (valid .fits)
@@ -237,8 +243,8 @@ module _ (g : Settings) (client : Bool) (toward : Toward client g) (part : List 
         ap (feed g 0 first) (sym (o .front))
         ∙ feed-append g 0 first all (o .middle)
         ∙ ap (λ (x : At). feed g 0 x (o .middle)) (read .fed)
-        ∙ feed-stopped g 0 (after (read .left) (length all)) (o .middle) (read .answers) in
-        never (sym (ap (λ (x : At). isMore (x .world .answer)) (sym (spot .fed) ∙ stops))) (read .answers))
+        ∙ feed-stopped g 0 (after (read .left) (length all)) (o .middle) (read .leaves .answers) in
+        never (sym (ap (λ (x : At). isMore (x .world .answer)) (sym (spot .fed) ∙ stops))) (read .leaves .answers))
 
     module _ (fs : List Frame) (piece more : List ℕ) (flow : part ++ (piece ++ more) ≡ all ++ wires client fs) where
       abbrev joined : At
@@ -294,15 +300,12 @@ module _ (g : Settings) (client : Bool) (toward : Toward client g) (part : List 
             whole = e;
             on = sym b;
             left = read .left;
-            between = read .between;
-            new = read .new;
-            event = read .event;
-            payload = read .payload;
+            leaves = read .leaves;
             comes =
                 ap (feed g 0 here) (sym d)
                 ∙ feed-append g 0 here front back
                 ∙ ap (λ (x : At). feed g 0 x back) stops
-                ∙ feed-stopped g 0 (after (read .left) (length front)) back (read .answers);
+                ∙ feed-stopped g 0 (after (read .left) (length front)) back (read .leaves .answers);
           }
 
       through : length all ≤ length part + length piece → Ends client part piece more (f ∷ fs) now

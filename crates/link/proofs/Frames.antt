@@ -1,7 +1,7 @@
 -- All that an end has put out, as a list of frames: their bytes on the pipe, the messages and pings that they carry, and where a close is.
 use mathlib.Core.Path.{_≡_, refl, sym, ap, _∙_}
 use mathlib.Core.Bool.{Bool, true, false}
-use mathlib.Core.List.{List, [], _∷_, _++_, append-assoc, append-nil, nil≢cons}
+use mathlib.Core.List.{List, [], _∷_, _++_, append-assoc, append-nil}
 use Prim.Native.Nat.{ℕ, _≤_}
 use lib.ListN.{length}
 use Rattle.base.specs.Table.{pick}
@@ -15,9 +15,11 @@ use Rattle.coding.specs.declared.opcode.OpCode.the-variants.{Data, Control, Res
 use Rattle.session.specs.declared.Settings.{Settings}
 use Rattle.session.specs.Frames.{isClose, isCloseKind, isContinueKind, isTextKind, reasonHolds}
 use Rattle.session.specs.Replies.{encoded}
+use Rattle.steady.proofs.Again.{either-not}
 use Rattle.steady.proofs.Headers.{never}
 use Rattle.utf8.specs.Progress.{progressAfter, isWhole}
 use Rattle.link.specs.System.{Item, item}
+use Rattle.link.proofs.Overlap.{no-second}
 
 -- ---- a frame as it was put out. The final bit is carried, though every frame is final today: a message is what its frames join to
 pub record Frame : Type 0 where
@@ -155,6 +157,10 @@ abbrev pub hasClose : List Frame → Bool
 hasClose [] = false
 hasClose (f ∷ fs) = either (closes f) (hasClose fs)
 
+pub either-none : (a : Bool) → either a false ≡ a
+either-none true = refl
+either-none false = refl
+
 either-assoc : (a b c : Bool) → either a (either b c) ≡ either (either a b) c
 either-assoc true b c = refl
 either-assoc false b c = refl
@@ -168,37 +174,21 @@ abbrev pub CloseLast : List Frame → Type 0
 CloseLast [] = Unit {0}
 CloseLast (f ∷ fs) = (closes f ≡ true → fs ≡ []) × CloseLast fs
 
-either-left : (a b : Bool) → either a b ≡ false → a ≡ false
-either-left true b e = e
-either-left false b e = refl
-
-either-right : (a b : Bool) → either a b ≡ false → b ≡ false
-either-right true b e = never refl e
-either-right false b e = e
-
 pub one-close : (f : Frame) → hasClose (f ∷ []) ≡ closes f
-one-close f = go (closes f)
-  where
-    go : (b : Bool) → either b false ≡ b
-    go true = refl
-    go false = refl
+one-close f = either-none (closes f)
 
 pub close-on : (a b : List Frame) → hasClose a ≡ false → CloseLast b → CloseLast (a ++ b)
 close-on [] b h c = c
 close-on (x ∷ a) b h c =
-    ((λ d. never d (either-left (closes x) (hasClose a) h)), close-on a b (either-right (closes x) (hasClose a) h) c)
+    let e = either-not (closes x) (hasClose a) h in ((λ d. never d (e .0)), close-on a b (e .1) c)
 
 pub one-last : (f : Frame) → CloseLast (f ∷ [])
 one-last f = ((λ c. refl), tt)
-
-none-behind : (a b : List Frame) → a ++ b ≡ [] → b ≡ []
-none-behind [] b h = h
-none-behind (x ∷ a) b h = absurd (nil≢cons (sym h))
 
 pub close-ends : (a b : List Frame) → CloseLast (a ++ b) → hasClose a ≡ true → b ≡ []
 close-ends [] b c h = never h refl
 close-ends (x ∷ a) b c h = go (closes x) refl (λ k. close-ends a b (c .1) k) h
   where
     go : (t : Bool) → closes x ≡ t → (hasClose a ≡ true → b ≡ []) → either t (hasClose a) ≡ true → b ≡ []
-    go true e more k = none-behind a b (c .0 e)
+    go true e more k = no-second a b (c .0 e)
     go false e more k = more k

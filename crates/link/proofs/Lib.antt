@@ -3,8 +3,8 @@ pub mod FrameBack
 pub mod CallBack
 pub mod Sent
 pub mod ReadBack
-pub mod Frames
 pub mod Overlap
+pub mod Frames
 pub mod FrameRead
 pub mod Direction
 pub mod Puts

@@ -24,6 +24,6 @@ pub no-first : (a b : List ℕ) → a ++ b ≡ [] → a ≡ []
 no-first [] b e = refl
 no-first (x ∷ a) b e = absurd (nil≢cons (sym e))
 
-pub no-second : (a b : List ℕ) → a ++ b ≡ [] → b ≡ []
+pub no-second : {A : Type 0} (a b : List A) → a ++ b ≡ [] → b ≡ []
 no-second [] b e = e
 no-second (x ∷ a) b e = absurd (nil≢cons (sym e))

@@ -35,6 +35,7 @@ use Rattle.link.specs.System.{Item, End, Answers, Side, Keys, four, mask
 use Rattle.link.proofs.Direction.{isOver, over-number, Kept, Inv}
 use Rattle.link.proofs.Events.{event-aim, event-kind}
 use Rattle.link.proofs.FrameRead.{Within, within, ends}
+use Rattle.link.proofs.Frames.{either-none}
 use Rattle.link.proofs.Puts.{atOut, move-inv}
 use Rattle.link.proofs.ReadSteps.{endOf, piece, come-to, Comes, come, more-read, more-inv, end-read, end-inv, end-cut, closed-inv}
 use Rattle.link.proofs.Sends.{lives-by}
@@ -108,15 +109,34 @@ close-moves s mask o late server =
 -- nothing was handed out or said
 none-told : (x : Answers) → record { accepted = x .accepted; handed = x .handed ++ []; said = either (x .said) false; asked = x .asked } ≡ x
 none-told x =
-    ap₂ (λ (h : List Item) (b : Bool). record { accepted = x .accepted; handed = h; said = b; asked = x .asked }) (append-nil (x .handed)) (go (x .said))
-  where
-    go : (b : Bool) → either b false ≡ b
-    go true = refl
-    go false = refl
+    ap₂ (λ (h : List Item) (b : Bool). record { accepted = x .accepted; handed = h; said = b; asked = x .asked }) (append-nil (x .handed)) (either-none (x .said))
+
+-- the tests of an end by itself: 2, and then 19
+pub tests : (e : End) (k : Keys) → Kept e
+    → firstOf (readTests (e .session) (four (k .first)) (e .message) (e .control) (e .output)) ≡ pick (isTerminated (e .session .state)) 2 (pick (closeStuck e k) 19 0)
+unfolding readTests firstOf
+tests e k kept =
+    rw (kept .ranged, room-stores (e .session) (e .message) (e .control) (e .output) (kept .room), kept .unrefused)
+
+-- an end that is over has no close that waits, if it is a server
+none-stuck : (l r : Side) (v : Inv l r) (k : Keys) → isTerminated (l .end .session .state) ≡ true → closeStuck (l .end) k ≡ false
+none-stuck l r v k h =
+    by-test (closeStuck (l .end) k)
+    (λ t.
+    let a = both-parts (isServer (l .end .session .settings)) _ t in
+    let b = both-parts (isCloseReply (l .end .session .reply .waiting)) _ (a .1) in
+    never (b .0) (v .lr .sender .late (a .0) (over-number (v .p) ∙ ap (λ (n : ℕ). eqb n 4) (sym (v .is-p)) ∙ h)))
+    (λ t. t)
 
 module _ (l r : Side) (v : Inv l r) (n : ℕ) (want : Bool) (k : Keys) where
   abbrev e : End
   e = l .end
+
+  abbrev stuck : Bool
+  stuck = closeStuck e k
+
+  abbrev over' : Bool
+  over' = isTerminated (e .session .state)
 
   abbrev offer : List ℕ
   offer = take n (r .pipe .bytes)
@@ -199,31 +219,9 @@ module _ (l r : Side) (v : Inv l r) (n : ℕ) (want : Bool) (k : Keys) where
       go (taking p h f) = subst Fits (sym (f offer flag)) (takes (p .goes-on) (p .fits-close) h .0) call-kept
 
   -- ---- by which numbers it is refused
-  abbrev stuck : Bool
-  stuck = closeStuck e k
-
-  abbrev over' : Bool
-  over' = isTerminated (e .session .state)
-
-  -- the tests of an end by itself: 2, and then 19
-  pub tests : firstOf (readTests (e .session) (four (k .first)) (e .message) (e .control) (e .output)) ≡ pick over' 2 (pick stuck 19 0)
-  unfolding readTests firstOf
-  tests =
-      rw (v .kept-l .ranged, room-stores (e .session) (e .message) (e .control) (e .output) (v .kept-l .room), v .kept-l .unrefused)
-
-  -- an end that is over has no close that waits, if it is a server
-  none-stuck : over' ≡ true → stuck ≡ false
-  none-stuck h =
-      by-test stuck
-      (λ t.
-      let a = both-parts (isServer (e .session .settings)) _ t in
-      let b = both-parts (isCloseReply (e .session .reply .waiting)) _ (a .1) in
-      never (b .0) (v .lr .sender .late (a .0) (over-number (v .p) ∙ ap (λ (n : ℕ). eqb n 4) (sym (v .is-p)) ∙ h)))
-      (λ t. t)
-
   refused-by : (n : ℕ) → pick over' 2 (pick stuck 19 0) ≡ n → (n ≡ 0 → ⊥) → call .turn .answer ≡ Refused n
   unfolding readCall
-  refused-by n h k = rw (tests ∙ h, ne-eqb n 0 k)
+  refused-by n h owed = rw (tests e k (v .kept-l) ∙ h, ne-eqb n 0 owed)
 
   Told : Answer → Type 0
   Told a = (j : ℕ) → a ≡ Refused j → ((j ≡ 2) × (over' ≡ true)) ⊎ (((j ≡ 16) × (either (l .pipe .cut) (r .pipe .cut) ≡ true)) ⊎ ((j ≡ 19) × (stuck ≡ true)))
@@ -241,7 +239,7 @@ module _ (l r : Side) (v : Inv l r) (n : ℕ) (want : Bool) (k : Keys) where
       go : Way (e .session) (masks k) (e .message) (e .control) (e .output) → Told (call .turn .answer)
       go (refused n is owed f) j h =
           let same : n ≡ j = ap value (sym (ap (λ (u : Read). u .turn .answer) (f offer flag)) ∙ h) in
-          by-tests over' stuck j refl refl (sym tests ∙ is ∙ same) (λ z. owed (same ∙ z))
+          by-tests over' stuck j refl refl (sym (tests e k (v .kept-l)) ∙ is ∙ same) (λ z. owed (same ∙ z))
       go (closed p c f) j h = absurd (omega (arith, ap kind (sym (ap (λ (u : Read). u .turn .answer) (f offer flag)) ∙ h)))
       go (taking p c f) j h =
           inr (inl (takes (p .goes-on) (p .fits-close) c .1 j (sym (ap (λ (u : Read). u .turn .answer) (f offer flag)) ∙ h)))
@@ -255,7 +253,7 @@ module _ (l r : Side) (v : Inv l r) (n : ℕ) (want : Bool) (k : Keys) where
         two = λ h. refused-by 2 (ap (λ (b : Bool). pick b 2 (pick stuck 19 0)) h) (λ z. absurd (omega arith));
         by-nineteen = λ h. ⊎-elim (λ a. absurd (omega (arith, a .0))) (λ x. ⊎-elim (λ b. absurd (omega (arith, b .0))) (λ c. c .1) x) (told 19 h);
         nineteen = λ h.
-            let lives : over' ≡ false = by-test over' (λ t. never h (none-stuck t)) (λ t. t) in
+            let lives : over' ≡ false = by-test over' (λ t. never h (none-stuck l r v k t)) (λ t. t) in
             refused-by 19 (ap₂ (λ (a b : Bool). pick a 2 (pick b 19 0)) lives h) (λ z. absurd (omega arith));
         by-sixteen = λ h. ⊎-elim (λ a. absurd (omega (arith, a .0))) (λ x. ⊎-elim (λ b. b .1) (λ c. absurd (omega (arith, c .0))) x) (told 16 h);
       }

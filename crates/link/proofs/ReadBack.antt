@@ -6,7 +6,7 @@ use Prim.Native.Nat.{ℕ, _<_, _≤_}
 use native.Mathlib.Omega.{arith}
 use lib.Dec.{ltb}
 use lib.ListN.{length, take, drop}
-use borrow.Author.Tests.{ltb-false}
+use borrow.Author.Tests.{ltb-false, not-false}
 use Rattle.base.specs.Bytes.{part, toBig}
 use Rattle.base.specs.Stores.{laid}
 use Rattle.base.specs.Tests.{both, either}
@@ -36,7 +36,7 @@ use Rattle.steady.proofs.Again.{either-not}
 use Rattle.steady.proofs.Headers.{never}
 use Rattle.link.proofs.CallBack.{Ready, data-read-back, control-read-back}
 use Rattle.link.proofs.HeaderBack.{keepAll}
-use Rattle.link.proofs.Sent.{not-false, sent-puts, put-bytes, not-bad}
+use Rattle.link.proofs.Sent.{sent-puts, put-bytes, not-bad}
 
 -- no close of one byte can be asked for
 pub not-one : (closing : Closing) (reason : List ℕ) → length (closingBytes closing reason) ≡ 1 → ⊥

@@ -31,7 +31,7 @@ use Rattle.steady.proofs.InRangeStays.{fed, fed-fine}
 use Rattle.link.specs.System.{Item, End, Side, ended, counted, isClosed, reader, readFrom}
 use Rattle.link.proofs.Direction.{Phase, active, byUs, byPeer, acked, over, number, isOver, over-number, Link, Heard, loadOf, Sound, Knows, knows-on, all-on, Kept, heldOf, Reader, Dir, Fin, Inv}
 use Rattle.link.proofs.FrameRead.{spot-between, Within, Ends, Came, within, ends, spot-whole, came, came-none, feed-open}
-use Rattle.link.proofs.Frames.{Frame, wires, nothing, itemsOf, told, told-on, one-told, Valid, AllValid, valid-front, valid-behind, closes, hasClose, close-append, CloseLast, close-ends}
+use Rattle.link.proofs.Frames.{Frame, wires, nothing, itemsOf, told, told-on, one-told, Valid, AllValid, valid-front, valid-behind, closes, hasClose, one-close, close-append, CloseLast, close-ends}
 
 -- ---- small facts
 pub said-still : (b : Bool) → either b false ≡ true → b ≡ true
@@ -79,6 +79,12 @@ other-over r q is h whole =
 -- the session at another state, with another reply, and with more come
 abbrev pub at : Session → ℕ → Incoming → Reply → Session
 at s state i q = record { settings = s .settings; state = state; refusal = s .refusal; incoming = i; reply = q; held = s .held }
+
+-- a session that waits for a byte reads on from where it stands
+pub fed-here : (s : Session) (piece m c : List ℕ) → Waits (s .settings) (s .incoming)
+    → fed s piece m c ≡ feed (s .settings) (s .state) (after (world (s .incoming) m c More) 0) piece
+fed-here s piece m c waits =
+    ap (λ (w : World). feed (s .settings) (s .state) (after w 0) piece) (settle-still (s .settings) (s .state) (s .incoming) m c waits)
 
 -- the end that a read call leaves
 abbrev pub endOf : Read → End
@@ -221,11 +227,6 @@ module _ (l r : Side) (v : Inv l r) where
     abbrev pub come-to : At
     come-to = fed s piece (l .end .message) (l .end .control)
 
-    fed-here : come-to ≡ feed g (s .state) (after (world (s .incoming) (l .end .message) (l .end .control) More) 0) piece
-    fed-here =
-        ap (λ (w : World). feed g (s .state) (after w 0) piece)
-        (settle-still g (s .state) (s .incoming) (l .end .message) (l .end .control) (d .reader .waits))
-
     -- behind a close there is nothing; else the piece is of what was put out
     abbrev pub Comes : Type 0
     Comes = Came g client (d .part) piece more (d .rest) come-to
@@ -233,25 +234,23 @@ module _ (l r : Side) (v : Inv l r) where
     pub come : Comes
     unfolding wires
     come =
+        let here = fed-here s piece (l .end .message) (l .end .control) (d .reader .waits) in
         by-test (isPeerClosed (s .state))
         (λ t.
         let got : hasClose (d .got) ≡ true =
         heard-closed (v .p) (hasClose (d .got)) (ap (λ (k : ℕ). isPeerClosed k) (sym (v .is-p)) ∙ t) (d .reader .heard) in
         within
-        (subst (Within g (d .part) piece) (sym fed-here)
+        (subst (Within g (d .part) piece) (sym here)
         (came-none g client (d .toward) (d .part) (s .incoming) (l .end .message) (l .end .control) (d .reader .spot) piece more
         (whole-flow ∙ ap (wires client) (none-left got)) (s .state))))
         (λ t.
         subst (Came g client (d .part) piece more (d .rest))
-        (sym (fed-here ∙ feed-open g (s .state) t (after (world (s .incoming) (l .end .message) (l .end .control) More) 0) piece))
+        (sym (here ∙ feed-open g (s .state) t (after (world (s .incoming) (l .end .message) (l .end .control) More) 0) piece))
         (came g client (d .toward) (d .part) (s .incoming) (l .end .message) (l .end .control) (d .reader .spot) piece more (d .rest) valid-rest whole-flow))
 
     -- what has come waits for the next byte
     pub fine : FineWorld g (come-to .world)
     fine = fed-fine s piece (l .end .message) (l .end .control) (v .kept-l .shaped) (v .kept-l .ranged)
-
-    abbrev kept-shut : isServer g ≡ true → either (l .answers .said) false ≡ true → hasClose (v .lr .frames) ≡ true
-    kept-shut h e = v .lr .sender .shut h (said-still (l .answers .said) e)
 
     -- ---- a server that has its close out and has got one
     abbrev pub closed-read : Read
@@ -398,11 +397,7 @@ module _ (l r : Side) (v : Inv l r) where
           by-test (hasClose (d .got)) (λ t. absurd (nil≢cons (sym (none-left t) ∙ e .is))) (λ t. t)
 
       close-now : hasClose got-now ≡ closes f
-      close-now = close-append (d .got) (f ∷ []) ∙ ap (λ (b : Bool). either b (either (closes f) false)) none-before ∙ go (closes f)
-        where
-          go : (b : Bool) → either b false ≡ b
-          go true = refl
-          go false = refl
+      close-now = close-append (d .got) (f ∷ []) ∙ ap (λ (b : Bool). either b (hasClose (f ∷ []))) none-before ∙ one-close f
 
       split-now : got-now ++ e .frames ≡ d .frames
       split-now = append-assoc (d .got) (f ∷ []) (e .frames) ∙ ap (λ (b : List Frame). d .got ++ b) (sym (e .is)) ∙ d .split
@@ -430,7 +425,7 @@ module _ (l r : Side) (v : Inv l r) where
         event-inv lives' open' shows waits link sound knows heard kept =
             live-inv p state is (e .left .incoming) q (e .left .message) c a (e .front) behind-now bytes-now got-now (e .frames) [] split-now flow-now link sound open' knows
             (record {
-              spot = spot-between g (e .left .incoming) (e .left .message) c (e .between) (e .new) (kept .room .for-message) (kept .room .for-control);
+              spot = spot-between g (e .left .incoming) (e .left .message) c (e .leaves .between) (e .leaves .new) (kept .room .for-message) (kept .room .for-control);
               waits = waits;
               hands =
                   ap₂ (λ (x y : List Item). x ++ y) (d .reader .hands) shows ∙ sym (told-on g (d .got) (f ∷ []) valid-got ∙ ap (λ (i : List Item). told nothing (d .got) ++ i) (one-told f (valid-f .whole)));

@@ -16,12 +16,12 @@ use Rattle.session.specs.declared.Session.{Session}
 use Rattle.session.specs.declared.Waiting.{Waiting}
 use Rattle.session.specs.declared.Waiting.the-variants.{Nothing as NoReply, Pong as PongReply, Close as CloseReply}
 use Rattle.session.specs.Range.{waits}
-use Rattle.session.specs.Reading.{World, world, At, after, feed, isMore}
+use Rattle.session.specs.Reading.{world, At, after, feed, isMore}
 use Rattle.session.specs.Replies.{fits, isCloseReply, replyCode, replyFrame, Out, out, appended, moveReply}
 use Rattle.session.specs.Session.{isServer, isClient, isPeerClosed, isTerminated, withState}
 use Rattle.session.proofs.Choices.{both-none}
 use Rattle.steady.proofs.Again.{length-encoded}
-use Rattle.steady.proofs.Feeding.{feed-all, feed-moves, settle-still}
+use Rattle.steady.proofs.Feeding.{feed-all, feed-moves}
 use Rattle.steady.proofs.Headers.{never}
 use Rattle.steady.proofs.InRangeStays.{fed}
 use Rattle.steady.proofs.OneCall.{outcome, flagged-taken}
@@ -35,7 +35,7 @@ use Rattle.link.proofs.FrameRead.{spot-whole}
 use Rattle.link.proofs.Frames.{Frame, wires, AllValid, valid-behind, hasClose}
 use Rattle.link.proofs.HeaderBack.{size-least}
 use Rattle.link.proofs.ReadAct.{tests}
-use Rattle.link.proofs.ReadSteps.{heard-open, link-closed}
+use Rattle.link.proofs.ReadSteps.{heard-open, link-closed, fed-here}
 
 -- ---- an end that lives, holds no output, and that a read of all that is there leaves as it is
 zero-keys : Keys
@@ -77,7 +77,7 @@ module _ (l r : Side) (v : Inv l r) (lives : isOver (v .p) ≡ false) (none : l 
   -- no number is owed
   clear : firstOf (readTests s (four (k .first)) (e .message) (e .control) (e .output)) ≡ 0
   clear =
-      tests l r v 0 false k
+      tests e k (v .kept-l)
       ∙ ap₂ (λ (a b : Bool). pick a 2 (pick b 19 0)) alive (close-fits s (four (k .first)) (e .output) refl short room)
 
   -- so a waiting reply would have moved
@@ -157,9 +157,8 @@ module _ (l r : Side) (v : Inv l r) (lives : isOver (v .p) ≡ false) (none : l 
       call-is
       ∙ ap (λ (b : Bool). pick b (read (turn Closed 0 (withState s 4)) (e .message) (e .control) (e .output)) (takeBytes s there (ended r) (e .message) (e .control) (e .output))) goes-on
 
-  fed-here : fed s there (e .message) (e .control) ≡ feed (s .settings) (s .state) (after (world (s .incoming) (e .message) (e .control) More) 0) there
-  fed-here =
-      ap (λ (w : World). feed (s .settings) (s .state) (after w 0) there) (settle-still (s .settings) (s .state) (s .incoming) (e .message) (e .control) (v .rl .reader .waits))
+  reads-on : fed s there (e .message) (e .control) ≡ feed (s .settings) (s .state) (after (world (s .incoming) (e .message) (e .control) More) 0) there
+  reads-on = fed-here s there (e .message) (e .control) (v .rl .reader .waits)
 
   -- it has read all that is there
   pub all-read : there ≡ []
@@ -167,7 +166,7 @@ module _ (l r : Side) (v : Inv l r) (lives : isOver (v .p) ≡ false) (none : l 
       let start : At = after (world (s .incoming) (e .message) (e .control) More) 0 in
       let x : At = feed (s .settings) (s .state) start there in
       let count : x .taken ≡ 0 =
-      sym (ap (λ (u : Read). u .turn .taken) call-takes ∙ flagged-taken (ended r) _ _ ∙ ap (λ (y : At). y .taken) fed-here) ∙ still .taken k in
+      sym (ap (λ (u : Read). u .turn .taken) call-takes ∙ flagged-taken (ended r) _ _ ∙ ap (λ (y : At). y .taken) reads-on) ∙ still .taken k in
       by-test (isMore (x .world .answer)) (λ t. no-bytes there (omega (arith, feed-all (s .settings) (s .state) start there t)))
       (λ t. absurd (omega (arith, feed-moves (s .settings) (s .state) start there refl t)))
 
@@ -182,7 +181,7 @@ module _ (l r : Side) (v : Inv l r) (lives : isOver (v .p) ≡ false) (none : l 
       (sym (ap (λ (x : Session). x .state) (still .session k))
       ∙ ap (λ (u : Read). u .turn .session .state) call-takes
       ∙ ap (λ (x : At). outcome s (ended r) (e .output) x .turn .session .state)
-      (fed-here ∙ ap (feed (s .settings) (s .state) (after (world (s .incoming) (e .message) (e .control) More) 0)) all-read)
+      (reads-on ∙ ap (feed (s .settings) (s .state) (after (world (s .incoming) (e .message) (e .control) More) 0)) all-read)
       ∙ ap (λ (b : Bool). outcome s b (e .output) (after (world (s .incoming) (e .message) (e .control) More) 0) .turn .session .state) t)))
       (λ t. t)
 

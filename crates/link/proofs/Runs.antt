@@ -23,9 +23,9 @@ use Rattle.session.specs.Range.{limitsHold, settingsHold, headerHolds, countHol
 use Rattle.session.specs.Reading.{keep, plain, stored, refuse, finish, rest, settle, byteIn, step, feed}
 use Rattle.session.specs.Replies.{frameHeader, encoded, fits, replyOf, withPong, noReply, replyFrame, appended, moveReply, shownLength, shownControl, closeCame, pingCame}
 use Rattle.utf8.specs.Progress.{stepped, progressAfter, isWhole, isBeginning}
-use Rattle.link.specs.Demand.{AtRest}
+use Rattle.link.specs.Demand.{Fit, AtRest}
 use Rattle.link.specs.System.{Item, item, sendText, sendBinary, sendPing, sendPong, sendClose, takes, reads, cuts, sent, givenBytes, taken, cutAt, ended, readBy, reader, readFrom, done, next, run, freshSide, outset}
-use Rattle.link.proofs.Rows.{client, server, start, gives, silent, toldAll, Row, turnsOf, answersOf, after, key, byClient, byServer, readsAll, readsToEnd, accepted, refused, leftOf, active, terminated, closedWith, unclosed, areAllowed, Shows, shows, isAtRest, at-rest}
+use Rattle.link.proofs.Rows.{client, client-fit, server, server-fit, start, gives, silent, toldAll, Row, turnsOf, answersOf, after, key, byClient, byServer, readsAll, readsToEnd, accepted, refused, leftOf, active, terminated, closedWith, unclosed, areAllowed, Shows, shows, isAtRest, at-rest}
 
 abbrev pub hi : List ℕ
 hi = 0x68 ∷ 0x69 ∷ []
@@ -200,8 +200,10 @@ refusedCalls =
     ∷ byClient readsToEnd (gives Closed 0)
     ∷ []
 
--- ---- what they leave. The runs in which an end closed come to rest, as demand 3's last sentence has it
+-- ---- the two ends are as demand 3 supposes, and what the runs leave. The runs in which an end closed come to rest, as demand 3's last sentence has it
 pub record AllShown : Type 0 where
+  pub client-fits : Fit client
+  pub server-fits : Fit server
   pub client-closes : Shows clientCloses (closedWith (text hi ∷ ping (0x21 ∷ []) ∷ []) (binary (0x00 ∷ 0xff ∷ []) ∷ []) true)
       (closedWith (binary (0x00 ∷ 0xff ∷ []) ∷ []) (text hi ∷ ping (0x21 ∷ []) ∷ []) false)
   pub client-closes-rests : AtRest (after clientCloses)
@@ -249,6 +251,8 @@ pub all-shown : AllShown
 unfolding clientCloses serverCloses closesCross cutInHeader cutInPayload characterCut pongWaits pongMoves echoWaits refusedCalls client server start toldAll turnsOf answersOf after leftOf areAllowed isAtRest sent givenBytes taken cutAt ended readBy reader readFrom done next run freshSide outset noIncoming emptyReply fresh newCall outputShort storesShort readTests flagged takeBytes readOn readCall sendTests sendFrame textCall binaryCall pingCall closeCall pongCall waitsCall heldNumber heldPart takeTests takeCall beyond partOf part fromBig toBig laid valueAt firstOf allowed opcodeOf closeOf closeBytes violation firstByteOf secondOf extraBytes lengthOf sizeBy missing headerOf maskIn lengthCode lengthBytes firstByte secondByte headerBytes masked headerWhole frame isText headerTests before progressNow doomTests doom reasonHolds textHolds utfTest verdict limitsHold settingsHold headerHolds countHolds incomingHolds replyHolds numbersHold rangeOf inRange keep plain stored refuse finish rest settle byteIn step feed frameHeader encoded fits replyOf withPong noReply replyFrame appended moveReply shownLength shownControl closeCame pingCame stepped progressAfter isWhole isBeginning
 all-shown =
     record {
+      client-fits = client-fit;
+      server-fits = server-fit;
       client-closes = shows refl refl refl refl;
       client-closes-rests = at-rest (after clientCloses) refl;
       server-closes = shows refl refl refl refl;

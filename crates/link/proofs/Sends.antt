@@ -6,7 +6,7 @@ use Prim.Native.Nat.{ℕ, _≤_}
 use native.Mathlib.Omega.{arith}
 use lib.Dec.{eqb, ltb}
 use lib.ListN.{length, drop}
-use borrow.Author.Tests.{eqb-true, ltb-false}
+use borrow.Author.Tests.{eqb-true, ltb-false, not-false}
 use Rattle.base.specs.Table.{pick}
 use Rattle.base.specs.Tests.{either, firstOf}
 use Rattle.base.proofs.Choice.{by-test}
@@ -36,10 +36,10 @@ use Rattle.link.specs.Demand.{FitsOther, NoneWaits}
 use Rattle.link.specs.System.{Item, item, End, Answers, Side, Keys, four, masks, sent, textTo, binaryTo, pingTo, pongTo, closeTo}
 use Rattle.link.proofs.Direction.{Phase, active, byUs, byPeer, acked, over, number, isOver, over-number, Link, Heard, loadOf, Sound, caller, Knows, FrameKnows, speaks, hears, heard-as, Inv}
 use Rattle.link.proofs.FrameBack.{front-laid}
-use Rattle.link.proofs.Frames.{Frame, bytesOf, one-wire, nothing, itemsOf, one-told, LoadFits, hasClose, one-close, one-last}
+use Rattle.link.proofs.Frames.{Frame, bytesOf, one-wire, nothing, itemsOf, one-told, LoadFits, hasClose, either-none, one-close, one-last}
 use Rattle.link.proofs.Puts.{outEnd, atOut, mk-live, put-inv, move-inv}
 use Rattle.link.proofs.ReadBack.{not-one, holds}
-use Rattle.link.proofs.Sent.{not-false, sendable, Way, refused, goes-out, way}
+use Rattle.link.proofs.Sent.{sendable, Way, refused, goes-out, way}
 
 -- ---- the state that a call finds
 pub active-is : (p : Phase) → isActive (number p) ≡ true → p ≡ active
@@ -270,11 +270,7 @@ full-set q w p full = length-laid (q .payload) 0 p ∙ full
 -- nothing that counts was accepted
 none-more : (x : Answers) → record { accepted = x .accepted ++ []; handed = x .handed; said = x .said; asked = either (x .asked) false } ≡ x
 none-more x =
-    ap₂ (λ (a : List Item) (b : Bool). record { accepted = a; handed = x .handed; said = x .said; asked = b }) (append-nil (x .accepted)) (go (x .asked))
-  where
-    go : (b : Bool) → either b false ≡ b
-    go true = refl
-    go false = refl
+    ap₂ (λ (a : List Item) (b : Bool). record { accepted = a; handed = x .handed; said = x .said; asked = b }) (append-nil (x .accepted)) (either-none (x .asked))
 
 module _ (l r : Side) (v : Inv l r) (p : List ℕ) (k : Keys) where
   abbrev q : Reply

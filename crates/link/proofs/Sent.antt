@@ -8,7 +8,7 @@ use native.Mathlib.Omega.{arith}
 use lib.Dec.{eqb, ltb}
 use lib.ListN.{length, take, drop, length-append}
 use lib.Seq.{take-take, take-at}
-use borrow.Author.Tests.{eq-eqb, eqb-true, leb-true, ltb-false}
+use borrow.Author.Tests.{eq-eqb, eqb-true, leb-true, ltb-false, not-false}
 use Rattle.base.specs.Bytes.{part}
 use Rattle.base.specs.Stores.{laid}
 use Rattle.base.specs.Table.{pick}
@@ -27,7 +27,6 @@ use Rattle.session.specs.Replies.{encoded, fits, replyFrame, Out, appended, mov
 use Rattle.session.specs.Session.{isClient, isActive, isTerminated, withState, withHeld}
 use Rattle.session.proofs.Choices.{both-parts}
 use Rattle.steady.proofs.Again.{either-not}
-use Rattle.steady.proofs.Headers.{never}
 
 -- the frame is laid behind the held bytes, and behind it nothing, or the waiting reply's frame
 pub record Put (held : ℕ) (output bytes reply : List ℕ) (x : Out) : Type 0 where
@@ -45,10 +44,6 @@ Accepted (Refused k) = ⊥
 fit-room : (held : ℕ) (output bytes : List ℕ) → fits held output bytes ≡ true → length bytes ≤ length output - held
 unfolding fits
 fit-room held output bytes h = leb-true (length bytes) (length output - held) h
-
-pub not-false : (b : Bool) → not b ≡ false → b ≡ true
-not-false true h = refl
-not-false false h = never refl h
 
 not-refused : (b : Bool) (a r : Sending) (k : ℕ) → r .handed .sent ≡ Refused k → pick b a r .handed .sent ≡ Done → b ≡ true
 not-refused true a r k e h = refl

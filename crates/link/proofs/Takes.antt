@@ -24,7 +24,7 @@ use Rattle.steady.proofs.Again.{either-not}
 use Rattle.steady.proofs.Headers.{never}
 use Rattle.steady.proofs.Parts.{range-held}
 use Rattle.link.specs.System.{End, Pipe, Side, givenBytes, taken, cutAt}
-use Rattle.link.proofs.Direction.{heldOf, Wire, speaks, hears, Inv}
+use Rattle.link.proofs.Direction.{Kept, heldOf, Wire, speaks, hears, Inv}
 use Rattle.link.proofs.FrameBack.{front-laid}
 use Rattle.link.proofs.Frames.{Frame}
 
@@ -94,6 +94,16 @@ module _ (l r : Side) (v : Inv l r) (held : ℕ) (output bytes : List ℕ) where
       }
 
 -- ---- a take
+-- all that is held is shown
+pub shown-held : (e : End) → Kept e → heldPart (e .session) (e .output) ≡ heldOf e
+unfolding heldPart heldNumber outputShort firstOf
+shown-held e k =
+    rw (
+      k .ranged,
+      le-ltb (length (e .output)) 131 (k .room .for-output),
+      le-ltb (length (e .output)) (e .session .held) (k .room .for-held),
+    )
+
 module _ (l r : Side) (v : Inv l r) (n : ℕ) where
   abbrev s : Session
   s = l .end .session
@@ -103,13 +113,6 @@ module _ (l r : Side) (v : Inv l r) (n : ℕ) where
 
   abbrev number : ℕ
   number = firstOf (takeTests s n o)
-
-  -- all that is held is shown
-  pub shown-held : heldPart s o ≡ heldOf (l .end)
-  unfolding heldPart heldNumber outputShort firstOf
-  shown-held =
-      let k = v .kept-l in
-      rw (k .ranged, le-ltb (length o) 131 (k .room .for-output), le-ltb (length o) (s .held) (k .room .for-held))
 
   most : number ≡ 0 → n ≤ s .held
   unfolding takeTests
@@ -133,7 +136,7 @@ module _ (l r : Side) (v : Inv l r) (n : ℕ) where
       rw t
       (hand-inv l r v (s .held - n) (laid o 0 (part n (s .held - n) o)) (take n (heldPart s o)) (length-laid o 0 (part n (s .held - n) o))
       (omega (arith, length-laid o 0 (part n (s .held - n) o), v .kept-l .room .for-held))
-      (sym (take-append-drop n (heldOf (l .end))) ∙ ap₂ (λ (a b : List ℕ). a ++ b) (ap (take n) (sym shown-held)) (sym (moved few)))))
+      (sym (take-append-drop n (heldOf (l .end))) ∙ ap₂ (λ (a b : List ℕ). a ++ b) (ap (take n) (sym (shown-held (l .end) (v .kept-l)))) (sym (moved few)))))
       (λ t. rw t (hand-inv l r v (s .held) o [] refl (v .kept-l .room .for-held) refl))
 
 -- ---- a cut

@@ -163,7 +163,7 @@ frames-of : (l r : Side) → Inv l r → WholeFrames l r
 frames-of l r v =
     record {
       frames = v .lr .frames;
-      bytes = ap (λ (b : List ℕ). l .pipe .given ++ b) (shown-held l r v 0) ∙ v .lr .wire .given;
+      bytes = ap (λ (b : List ℕ). l .pipe .given ++ b) (shown-held (l .end) (v .kept-l)) ∙ v .lr .wire .given;
       admitted = v .lr .sender .valid;
     }
 
