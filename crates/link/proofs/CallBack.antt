@@ -30,7 +30,7 @@ use Rattle.session.specs.Reading.{World, world, At, after, between as betweenFr
 use Rattle.session.specs.Replies.{frameHeader, encoded, Out, moveReply, Concluded, conclude}
 use Rattle.session.specs.Session.{isServer, isClient, isPeerClosed, withIncoming}
 use Rattle.utf8.specs.Progress.{progressAfter, isWhole}
-use Rattle.steady.proofs.Moves.{by-move}
+use Rattle.steady.proofs.Moves.{move-settings, move-state, move-incoming}
 use Rattle.link.proofs.FrameBack.{dataEvent, begun-all, data-back, control-back}
 use Rattle.link.proofs.HeaderBack.{keepAll, Between, settle-lacking, unread}
 
@@ -105,13 +105,13 @@ module _ (s : Session) (masks : Masks) (m c o : List ℕ) where
 
   -- nothing of it changes but the reply and what is held
   same-settings : moved .session .settings ≡ s .settings
-  same-settings = by-move (λ t. t .settings ≡ s .settings) s (masks .first) o (λ n. refl) refl
+  same-settings = move-settings s (masks .first) o
 
   same-state : moved .session .state ≡ s .state
-  same-state = by-move (λ t. t .state ≡ s .state) s (masks .first) o (λ n. refl) refl
+  same-state = move-state s (masks .first) o
 
   same-incoming : moved .session .incoming ≡ s .incoming
-  same-incoming = by-move (λ t. t .incoming ≡ s .incoming) s (masks .first) o (λ n. refl) refl
+  same-incoming = move-incoming s (masks .first) o
 
   -- what the calls asks for: no number is owed, it is not over, and it stands between two frames
   pub record Ready : Type 0 where

@@ -26,7 +26,7 @@ use Rattle.session.proofs.Choices.{both-parts}
 use Rattle.steady.proofs.Again.{room-stores}
 use Rattle.steady.proofs.Headers.{never}
 use Rattle.steady.proofs.InRangeStays.{fed, range-stays-read, shape-stays-read}
-use Rattle.steady.proofs.Moves.{by-move}
+use Rattle.steady.proofs.Moves.{move-settings, move-state}
 use Rattle.steady.proofs.OneCall.{Way, way, refused, closed, taking, outcome}
 use Rattle.steady.proofs.Passing.{lateClose}
 use Rattle.steady.proofs.Sizes.{read-room, read-settings}
@@ -179,17 +179,11 @@ module _ (l r : Side) (v : Inv l r) (n : ℕ) (want : Bool) (k : Keys) where
     v' : Inv l' r
     v' = move-inv l r v (four (k .first)) refl lives
 
-    same-state : moved .session .state ≡ e .session .state
-    same-state = by-move (λ t. t .state ≡ e .session .state) (e .session) (four (k .first)) (e .output) (λ n. refl) refl
-
-    same-settings : moved .session .settings ≡ e .session .settings
-    same-settings = by-move (λ t. t .settings ≡ e .session .settings) (e .session) (four (k .first)) (e .output) (λ n. refl) refl
-
     lives' : isOver (v' .p) ≡ false
-    lives' = lives-by l' r v' (e .session .state) same-state goes
+    lives' = lives-by l' r v' (e .session .state) (move-state (e .session) (four (k .first)) (e .output)) goes
 
     close-moved : isServer (moved .session .settings) ≡ true → isCloseReply (moved .session .reply .waiting) ≡ false
-    close-moved h = close-moves (e .session) (four (k .first)) (e .output) late (sym (ap (λ (g : Settings). isServer g) same-settings) ∙ h)
+    close-moved h = close-moves (e .session) (four (k .first)) (e .output) late (sym (ap (λ (g : Settings). isServer g) (move-settings (e .session) (four (k .first)) (e .output))) ∙ h)
 
     closes : both (isServer (moved .session .settings)) (isPeerClosed (moved .session .state)) ≡ true
         → Fits (read (turn Closed 0 (withState (moved .session) 4)) (e .message) (e .control) (moved .output))

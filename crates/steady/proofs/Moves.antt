@@ -40,6 +40,16 @@ module _ (s : Session) (mask output : List ℕ) where
       by-move (λ u. inRange u ≡ true) s mask output
       (λ n. range-held (withReply s (noReply (s .reply))) n (range-reply s (noReply (s .reply)) e (λ w. omega arith))) e
 
+  -- of these nothing changes
+  pub move-settings : moveReply s mask output .session .settings ≡ s .settings
+  move-settings = by-move (λ u. u .settings ≡ s .settings) s mask output (λ n. refl) refl
+
+  pub move-state : moveReply s mask output .session .state ≡ s .state
+  move-state = by-move (λ u. u .state ≡ s .state) s mask output (λ n. refl) refl
+
+  pub move-incoming : moveReply s mask output .session .incoming ≡ s .incoming
+  move-incoming = by-move (λ u. u .incoming ≡ s .incoming) s mask output (λ n. refl) refl
+
   pub move-shaped : Shaped s → Shaped (moveReply s mask output .session)
   unfolding noReply
   move-shaped h = by-move Shaped s mask output (λ n. h) h

@@ -33,7 +33,7 @@ use Rattle.steady.specs.Taking.{takenRun}
 use Rattle.steady.proofs.Again.{length-encoded, Room}
 use Rattle.steady.proofs.Feeding.{fed-sizes}
 use Rattle.steady.proofs.InRangeStays.{fed, range-stays-read, shape-stays-read, range-stays-take, shape-stays-take}
-use Rattle.steady.proofs.Moves.{length-take-most, by-move}
+use Rattle.steady.proofs.Moves.{length-take-most, move-settings}
 use Rattle.steady.proofs.OneCall.{conclude-same}
 use Rattle.steady.proofs.Parts.{in-range}
 use Rattle.steady.proofs.Passing.{lateClose}
@@ -190,13 +190,12 @@ module _ (s : Session) (piece : List ℕ) (end : Bool) (masks : Masks) (message 
   pub read-settings : r .turn .session .settings ≡ s .settings
   unfolding readCall
   read-settings =
-      let moved : u .session .settings ≡ s .settings = by-move (λ t. t .settings ≡ s .settings) s (masks .first) output (λ k. refl) refl in
-      by-test (eqb n 0) (λ t. rw t (on .settings ∙ moved)) (λ t. rw t)
+      by-test (eqb n 0) (λ t. rw t (on .settings ∙ move-settings s (masks .first) output)) (λ t. rw t)
 
   pub read-room : RoomFor s message control output → RoomFor (r .turn .session) (r .message) (r .control) (r .output)
   unfolding readCall
   read-room a =
-      let limit : u .session .settings ≡ s .settings = by-move (λ t. t .settings ≡ s .settings) s (masks .first) output (λ k. refl) refl in
+      let limit = move-settings s (masks .first) output in
       let same = move-size s (masks .first) output in
       by-test (eqb n 0)
       (λ t.
