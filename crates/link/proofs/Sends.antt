@@ -31,6 +31,7 @@ use Rattle.steady.specs.Taking.{isDone}
 use Rattle.steady.proofs.Again.{either-not}
 use Rattle.steady.proofs.Headers.{never}
 use Rattle.steady.proofs.Parts.{range-state, range-reply}
+use Rattle.steady.proofs.Passing.{send-passed}
 use Rattle.utf8.specs.Progress.{progressAfter, isWhole}
 use Rattle.link.specs.Demand.{FitsOther, NoneWaits}
 use Rattle.link.specs.System.{Item, item, End, Answers, Side, Keys, four, masks, sent, textTo, binaryTo, pingTo, pongTo, closeTo}
@@ -39,7 +40,7 @@ use Rattle.link.proofs.FrameBack.{front-laid}
 use Rattle.link.proofs.Frames.{Frame, bytesOf, one-wire, nothing, itemsOf, one-told, LoadFits, hasClose, either-none, one-close, one-last}
 use Rattle.link.proofs.Puts.{outEnd, atOut, mk-live, put-inv, move-inv}
 use Rattle.link.proofs.ReadBack.{not-one, holds}
-use Rattle.link.proofs.Sent.{sendable, Way, refused, goes-out, way}
+use Rattle.link.proofs.Sent.{Way, refused, goes-out, way}
 
 -- ---- the state that a call finds
 pub active-is : (p : Phase) → isActive (number p) ≡ true → p ≡ active
@@ -305,9 +306,9 @@ module _ (l r : Side) (v : Inv l r) (p : List ℕ) (k : Keys) where
   pong-inv =
       by-test (eqb n 0)
       (λ t.
-      let fine = sendable (l .end .session) (l .end .output) (ltb 125 (length p)) (eqb-true n 0 t) in
-      let a = in-active l r v (fine .0) in
-      let base = pong-waits a (ltb-false 125 (length p) (fine .1)) in
+      let fine = send-passed (l .end .session) (l .end .output) (ltb 125 (length p)) (eqb-true n 0 t) in
+      let a = in-active l r v (fine .1) in
+      let base = pong-waits a (ltb-false 125 (length p) (fine .2)) in
       let u : Sending = sending Done (pong-out q .session) (pong-out q .output) in
       let e : pongTo (l .end) p k ≡ u =
       rw t (ap (λ (x : Reply). sending Done (pong-out x .session) (pong-out x .output)) (pong-set (l .end .session .reply) p false (a .link))) in

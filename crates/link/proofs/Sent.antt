@@ -22,11 +22,12 @@ use Rattle.session.specs.declared.Masks.{Masks}
 use Rattle.session.specs.declared.Sent.{Sent}
 use Rattle.session.specs.declared.Sent.the-variants.{Done, Refused}
 use Rattle.session.specs.declared.Session.{Session}
-use Rattle.session.specs.Range.{waits, inRange}
+use Rattle.session.specs.Range.{waits}
 use Rattle.session.specs.Replies.{encoded, fits, replyFrame, Out, appended, moveReply}
-use Rattle.session.specs.Session.{isClient, isActive, isTerminated, withState, withHeld}
+use Rattle.session.specs.Session.{isClient, isActive, withState, withHeld}
 use Rattle.session.proofs.Choices.{both-parts}
 use Rattle.steady.proofs.Again.{either-not}
+use Rattle.steady.proofs.Passing.{send-passed}
 
 -- the frame is laid behind the held bytes, and behind it nothing, or the waiting reply's frame
 pub record Put (held : ℕ) (output bytes reply : List ℕ) (x : Out) : Type 0 where
@@ -79,16 +80,6 @@ move-puts s mask output held bytes o e h k =
       room = subst (λ (l : List ℕ). held + length l ≤ length o) (sym none) k;
     }))
 
--- ---- a call that passes the tests is made in Active, with nothing that 18 names
-pub sendable : (s : Session) (output : List ℕ) (bad : Bool) → firstOf (sendTests s output bad) ≡ 0 → (isActive (s .state) ≡ true) × (bad ≡ false)
-unfolding sendTests
-sendable s output bad h =
-    let a = first-clear 20 (not (inRange s)) _ (λ e. absurd (omega arith)) h .1 in
-    let b = first-clear 1 (outputShort s output) _ (λ e. absurd (omega arith)) a .1 in
-    let c = first-clear 2 (isTerminated (s .state)) _ (λ e. absurd (omega arith)) b .1 in
-    let d = first-clear 17 (not (isActive (s .state))) _ (λ e. absurd (omega arith)) c in
-    (not-false (isActive (s .state)) (d .0), first-clear 18 bad [] (λ e. absurd (omega arith)) (d .1) .0)
-
 -- ---- an accepted call
 module _ (s : Session) (state : ℕ) (op : OpCode) (bad : Bool) (p : List ℕ) (masks : Masks) (output : List ℕ) where
   abbrev bytes : List ℕ
@@ -118,16 +109,16 @@ module _ (s : Session) (state : ℕ) (op : OpCode) (bad : Bool) (p : List ℕ) (
   none-late h = sym (ap (λ (b : Bool). pick b late early) (eq-eqb early 0 (none-early h))) ∙ h
 
   has-room : number ≡ 0 → s .held + length bytes ≤ length output
-  unfolding sendTests outputShort
+  unfolding outputShort
   has-room h =
       let fit : not (fits (s .held) output bytes) ≡ false = first-clear 19 (not (fits (s .held) output bytes)) [] (λ e. absurd (omega arith)) (none-late h) .0 in
-      let short = first-clear 1 (outputShort s output) _ (λ e. absurd (omega arith)) (first-clear 20 (not (inRange s)) _ (λ e. absurd (omega arith)) (none-early h) .1) .0 in
+      let short = send-passed s output bad (none-early h) .0 in
       let held : s .held ≤ length output = ltb-false (length output) (s .held) (either-not (ltb (length output) 131) (ltb (length output) (s .held)) short .1) in
       omega (arith, fit-room (s .held) output bytes (not-false (fits (s .held) output bytes) fit))
 
   -- what was to be sent is not bad: 18 was not given
   pub not-bad : x .handed .sent ≡ Done → bad ≡ false
-  not-bad h = sendable s output bad (none-early (none-owed h)) .1
+  not-bad h = send-passed s output bad (none-early (none-owed h)) .2
 
   -- the frame is in the output, behind what was held, and the state is the one given
   pub sent-puts : x .handed .sent ≡ Done → Put (s .held) output bytes (replyFrame s (masks .second)) (record { session = x .handed .session; output = x .output })
@@ -154,8 +145,8 @@ module _ (s : Session) (state : ℕ) (op : OpCode) (bad : Bool) (p : List ℕ) (
       by-test (eqb number 0)
       (λ t.
       let z : number ≡ 0 = eqb-true number 0 t in
-      let fine = sendable s output bad (none-early z) in
-      goes-out (fine .0) (fine .1) (has-room z) (rw t))
+      let fine = send-passed s output bad (none-early z) in
+      goes-out (fine .1) (fine .2) (has-room z) (rw t))
       (λ t. refused number (rw t))
 
 -- ---- the frame's bytes can be read off the store

@@ -80,7 +80,13 @@ module _ (s : Session) (e : inRange s ≡ true) where
       rw e (by-test (ltb (s .held) n) (λ t h. ltb-true (s .held) n t)
       (λ t. rw t (λ h. absurd (omega (arith, first-most 1 ((1 when outputShort s output) ∷ []) (omega arith))))))
 
--- ---- a payload that is not refused with 18
-pub send-clear : (s : Session) (output : List ℕ) (n : ℕ) → firstOf (sendTests s output (ltb 125 n)) ≡ 0 → n ≤ 125
+-- ---- a sending call that passes the tests: the output store is not short, the state is Active, and nothing is sent that 18 names
+pub send-passed : (s : Session) (output : List ℕ) (bad : Bool) → firstOf (sendTests s output bad) ≡ 0
+    → (outputShort s output ≡ false) × (isActive (s .state) ≡ true) × (bad ≡ false)
 unfolding sendTests
-send-clear s output n h = ltb-false 125 n (all-clear (sendTests s output (ltb 125 n)) (search needs) h .1 .1 .1 .1 .0)
+send-passed s output bad h =
+    let c = all-clear (sendTests s output bad) (search needs) h in
+    (c .1 .0, not-false (isActive (s .state)) (c .1 .1 .1 .0), c .1 .1 .1 .1 .0)
+
+pub send-clear : (s : Session) (output : List ℕ) (n : ℕ) → firstOf (sendTests s output (ltb 125 n)) ≡ 0 → n ≤ 125
+send-clear s output n h = ltb-false 125 n (send-passed s output (ltb 125 n) h .2)
