@@ -89,18 +89,22 @@ module _ (g : Settings) (state : ℕ) (i : Incoming) (m c : List ℕ) (vs : List
   clear : doom g state f i ≡ 0 → eqb (doom g state (frame i) i) 0 ≡ true
   clear h = eq-eqb (doom g state (frame i) i) 0 (ap (λ (x : FrameHeader). doom g state x i) (sym kept-one) ∙ h)
 
-  plain-by : {mask : List ℕ} → mask ≡ maskIn (kept i) → pick (f .masked) (masked mask (i .counted) vs) vs ≡ plain i vs
+  plain-by : {mask : List ℕ} → (f .masked ≡ true → mask ≡ maskIn (kept i)) → pick (f .masked) (masked mask (i .counted) vs) vs ≡ plain i vs
   unfolding plain
-  plain-by e = ap₂ (λ (t : Bool) (k : List ℕ). pick t (masked k (i .counted) vs) vs) (ap (λ (x : FrameHeader). x .masked) kept-one) e
+  plain-by e =
+      let same : f .masked ≡ frame i .masked = ap (λ (x : FrameHeader). x .masked) kept-one in
+      by-test (f .masked)
+      (λ t. rw (t, sym same ∙ t) (ap (λ (k : List ℕ). masked k (i .counted) vs) (e t)))
+      (λ t. rw (t, sym same ∙ t))
 
-  pub run-control : {j : Incoming} {mask d : List ℕ} → doom g state f i ≡ 0 → isControl (f .opcode) ≡ true → mask ≡ maskIn (kept i)
+  pub run-control : {j : Incoming} {mask d : List ℕ} → doom g state f i ≡ 0 → isControl (f .opcode) ≡ true → (f .masked ≡ true → mask ≡ maskIn (kept i))
       → d ≡ laid c (i .counted) (pick (f .masked) (masked mask (i .counted) vs) vs) → j ≡ counts i (length vs) (i .progress)
       → world j m d More ≡ stored g state (world i m c More) vs
   run-control h t k e q =
       ap₂ (λ (x : Incoming) (y : List ℕ). world x m y More) q (e ∙ ap (laid c (i .counted)) (plain-by k))
       ∙ sym (stored-control g state i m c More vs (clear h) (ap (λ (x : FrameHeader). isControl (x .opcode)) (sym kept-one) ∙ t))
 
-  pub run-data : {j : Incoming} {mask d : List ℕ} {at p : ℕ} → doom g state f i ≡ 0 → isControl (f .opcode) ≡ false → mask ≡ maskIn (kept i)
+  pub run-data : {j : Incoming} {mask d : List ℕ} {at p : ℕ} → doom g state f i ≡ 0 → isControl (f .opcode) ≡ false → (f .masked ≡ true → mask ≡ maskIn (kept i))
       → at ≡ before i + i .counted → d ≡ laid m at (pick (f .masked) (masked mask (i .counted) vs) vs)
       → p ≡ pick (isText f i) (progressAfter (progressNow i) (plain i vs)) (i .progress) → j ≡ counts i (length vs) p
       → world j d c More ≡ stored g state (world i m c More) vs
@@ -111,7 +115,7 @@ module _ (g : Settings) (state : ℕ) (i : Incoming) (m c : List ℕ) (vs : List
       ∙ sym (stored-data g state i m c More vs (clear h) (ap (λ (x : FrameHeader). isControl (x .opcode)) (sym kept-one) ∙ t))
 
   -- what was laid is what the check looks at
-  pub run-checked : {mask d : List ℕ} (at : ℕ) {p : ℕ} {t : Bool} → mask ≡ maskIn (kept i) → d ≡ laid m at (pick (f .masked) (masked mask (i .counted) vs) vs)
+  pub run-checked : {mask d : List ℕ} (at : ℕ) {p : ℕ} {t : Bool} → (f .masked ≡ true → mask ≡ maskIn (kept i)) → d ≡ laid m at (pick (f .masked) (masked mask (i .counted) vs) vs)
       → at + length vs ≤ length m → t ≡ isText f i → p ≡ pick t (progressAfter (progressNow i) (part at (length vs) d)) (i .progress)
       → p ≡ pick (isText f i) (progressAfter (progressNow i) (plain i vs)) (i .progress)
   run-checked at k e h q r =

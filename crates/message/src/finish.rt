@@ -3,7 +3,6 @@ use coding::opcode::Control;
 use coding::opcode::OpCode;
 use frame::close::ClosePayload;
 use frame::header::FrameHeader;
-use frame::header::Parsed;
 use session::Answer;
 use session::Incoming;
 use session::Settings;
@@ -11,12 +10,12 @@ ghost use mathlib.Core.Path.{_≡_};
 ghost use mathlib.Core.List.{List};
 ghost use mathlib.Core.Bool.{true, false};
 ghost use Prim.Native.Nat.{ℕ, _+_, _≤_};
-ghost use lib.ListN.{length, take};
+ghost use lib.ListN.{length};
 ghost use Rattle.base.specs.Table.{pick};
 ghost use Rattle.base.specs.Tests.{firstOf};
 ghost use Rattle.message.specs.Reasons.{hasReason};
 ghost use Rattle.session.specs.Frames.{isReserved, isControl, frame, headerTests, before, progressNow, textHolds, reasonHolds, verdict};
-ghost use Rattle.session.specs.Reading.{world, between, controlEvent, ended, refuse, finish, rest, settle};
+ghost use Rattle.session.specs.Reading.{world, between, controlEvent, ended, refuse, finish};
 
 pub(crate) struct Decided {
     pub(crate) answer: Answer,
@@ -176,7 +175,7 @@ fn end_frame(header: FrameHeader, incoming: Incoming) -> Decided
 }
 
 // The frame is whole.
-fn finish_now(
+pub(crate) fn finish_now(
     settings: Settings,
     state: u8,
     header: FrameHeader,
@@ -196,57 +195,4 @@ fn finish_now(
         };
     }
     end_frame(header, incoming)
-}
-
-// A whole frame gives its event or its refusal; else nothing is decided.
-pub(crate) fn rest_now(
-    settings: Settings,
-    state: u8,
-    header: FrameHeader,
-    incoming: Incoming,
-    control: &[u8],
-) -> Decided
-    requires { ⌜ header ≡ frame incoming ⌝ }
-    requires { ⌜ firstOf (headerTests settings header) ≡ 0 ⌝ }
-    requires { ⌜ 125 ≤ length (now control) ⌝ }
-    ensures { λ r. ⌜ ((m : List ℕ) → world (r .incoming) m (now (control .entry)) (r .answer) ≡ rest settings state (world incoming m (now (control .entry)) Answer.More)) ⌝ }
-{
-    if (incoming.counted as u64) < header.length {
-        return Decided {
-            answer: Answer::More,
-            incoming,
-        };
-    }
-    finish_now(settings, state, header, incoming, control)
-}
-
-// What is decided at a byte of the header.
-pub(crate) fn settle_now(
-    settings: Settings,
-    state: u8,
-    incoming: Incoming,
-    control: &[u8],
-) -> Decided
-    requires { ⌜ incoming .kept ≤ 14 ⌝ }
-    requires { ⌜ 125 ≤ length (now control) ⌝ }
-    ensures { λ r. ⌜ ((m : List ℕ) → world (r .incoming) m (now (control .entry)) (r .answer) ≡ settle settings state (world incoming m (now (control .entry)) Answer.More)) ⌝ }
-{
-    let bytes = incoming.header;
-    let kept = incoming.kept;
-    match frame::header::parse(&bytes[..kept]) {
-        Parsed::Lacking => Decided {
-            answer: Answer::More,
-            incoming,
-        },
-        Parsed::Whole(header) => {
-            let number = session::range::header_number(settings, header);
-            if number != 0 {
-                return Decided {
-                    answer: Answer::Refused(number),
-                    incoming,
-                };
-            }
-            rest_now(settings, state, header, incoming, control)
-        }
-    }
 }

@@ -1,4 +1,5 @@
 // One read call.
+use frame::header::Parsed;
 use session::Answer;
 use session::Incoming;
 use session::Masks;
@@ -14,10 +15,13 @@ ghost use Prim.Native.Nat.{ℕ, _+_, _-_, _≤_};
 ghost use lib.Dec.{eqb, ltb, leb};
 ghost use lib.ListN.{length};
 ghost use Rattle.base.specs.Tests.{both, either, _when_, firstOf};
-ghost use Rattle.frame.specs.Header.{headerSize};
-ghost use Rattle.reader.specs.Whole.{sessionOf, flagAnswer, flagState};
+ghost use Rattle.frame.specs.Header.{headerSize, parsed};
+ghost use Rattle.reader.specs.Fit.{Shows};
+ghost use Rattle.reader.specs.Whole.{sessionOf, flagAnswer, flagState, isQuiet, leaves, leftBy};
 ghost use Rattle.session.specs.Calls.{turn, read, takeBytes, readOn, readCall};
-ghost use Rattle.session.specs.Range.{rangeOf};
+ghost use Rattle.session.specs.declared.Settings.{Settings as Limits};
+ghost use Rattle.session.specs.Frames.{kept};
+ghost use Rattle.session.specs.Range.{waits, rangeOf};
 ghost use Rattle.session.specs.Replies.{isCloseReply};
 ghost use Rattle.session.specs.Session.{isServer, isClient, isPeerClosed, isTerminated};
 
@@ -63,6 +67,7 @@ fn read_number(
     state: u8,
     refusal: u8,
     incoming: Incoming,
+    header: Parsed,
     waiting: Waiting,
     count: usize,
     held: usize,
@@ -70,9 +75,10 @@ fn read_number(
     control: usize,
     output: usize,
 ) -> u8
+    requires { ⌜ header ≡ parsed (kept incoming) ⌝ }
     ensures { λ r. ⌜ r ≡ firstOf ((20 when not (rangeOf settings state refusal incoming waiting count)) ∷ (1 when either (ltb message (settings .message)) (either (ltb control 125) (either (ltb output 131) (ltb output held)))) ∷ (2 when isTerminated state) ∷ (refusal when not (eqb refusal 0)) ∷ []) ⌝ }
 {
-    if !session::range::in_range(settings, state, refusal, incoming, waiting, count) {
+    if !session::range::in_range_by(settings, state, refusal, incoming, header, waiting, count) {
         return 20;
     }
     if is_short(settings.message, held, message, control, output) {
@@ -133,6 +139,36 @@ fn flag(end: bool, answer: Answer, state: u8) -> Flagged
     Flagged { answer, state }
 }
 
+// What an event leaves, once the flag is looked at. `taken` and `incoming` are passed on.
+fn left_by(
+    answer: Answer,
+    taken: usize,
+    incoming: Incoming,
+    state: u8,
+    refusal: u8,
+    reply: Reply,
+    end: bool,
+    control: &mut [u8],
+) -> Gone
+    requires { ⌜ Shows answer ⌝ }
+    requires { ⌜ 125 ≤ length (now control) ⌝ }
+    ensures { λ r. ⌜ ((g : Limits) (held : ℕ) → leaves (turn (r .answer) (r .taken) (sessionOf g (r .state) (r .refusal) (r .incoming) (r .reply) held)) (now (control .exit)) ≡ leftBy (sessionOf g state refusal incoming reply held) answer (now (control .entry)) end taken) ⌝ }
+{
+    let left = crate::conclude::conclude_with(answer, state, refusal, reply, control);
+    let shown = left.answer;
+    let flagged = flag(end, shown, left.state);
+    let told = flagged.answer;
+    let waits = left.reply;
+    Gone {
+        answer: told,
+        taken,
+        state: flagged.state,
+        refusal: left.refusal,
+        incoming,
+        reply: waits,
+    }
+}
+
 // Bytes are taken up to one event, the event leaves what it leaves, and then the flag is looked at. The output store is not touched.
 fn take_on(
     settings: Settings,
@@ -152,20 +188,8 @@ fn take_on(
 {
     let taken = message::pump::take_bytes(settings, state, incoming, piece, message, control);
     let answer = taken.answer;
-    let left = crate::conclude::conclude_with(answer, state, refusal, reply, control);
-    let shown = left.answer;
-    let flagged = flag(end, shown, left.state);
-    let told = flagged.answer;
     let come = taken.incoming;
-    let waits = left.reply;
-    Gone {
-        answer: told,
-        taken: taken.at,
-        state: flagged.state,
-        refusal: left.refusal,
-        incoming: come,
-        reply: waits,
-    }
+    left_by(answer, taken.at, come, state, refusal, reply, end, control)
 }
 
 // Whether a server's connection is at its end: its peer has closed.
@@ -218,7 +242,34 @@ fn read_on(
     )
 }
 
-// Reads a piece up to one event.
+// Whether bytes are taken with nothing before it: no reply waits, and the connection is not at its end.
+fn is_calm(settings: Settings, state: u8, waiting: Waiting) -> bool
+    ensures { λ r. ⌜ r ≡ both (not (waits waiting)) (not (both (isServer settings) (isPeerClosed state))) ⌝ }
+{
+    if session::range::waits(waiting) {
+        return false;
+    }
+    !is_over(settings, state)
+}
+
+// Whether an answer leaves nothing but what has come.
+fn is_quiet(answer: Answer, end: bool) -> bool
+    ensures { λ r. ⌜ r ≡ isQuiet answer end ⌝ }
+{
+    match answer {
+        Answer::More => !end,
+        Answer::Text(_) => true,
+        Answer::Binary(_) => true,
+        Answer::Pong(_) => true,
+        Answer::Ping(_) => false,
+        Answer::Close(_) => false,
+        Answer::Closed => false,
+        Answer::Refused(_) => false,
+    }
+}
+
+// Reads a piece up to one event. Most calls are calm, most pieces of a long message lie inside a frame, and most answers are quiet: these
+// hand the session on with no more of it looked at, or copied, than what has come.
 pub fn read(
     session: Session,
     piece: &[u8],
@@ -232,13 +283,16 @@ pub fn read(
 {
     let settings = session.settings;
     let incoming = session.incoming;
+    // Most calls want the reply's kind and length alone; its bytes are copied where they are wanted.
     let reply = session.reply;
     let waiting = reply.waiting;
+    let header = session::range::kept_header(incoming);
     let number = read_number(
         settings,
         session.state,
         session.refusal,
         incoming,
+        header,
         waiting,
         reply.length,
         session.held,
@@ -260,9 +314,75 @@ pub fn read(
             session,
         };
     }
+    if is_calm(settings, session.state, waiting) {
+        let within = message::pump::take_within(
+            settings,
+            session.state,
+            incoming,
+            header,
+            piece,
+            end,
+            message,
+            control,
+        );
+        if within.holds {
+            let mut next = session;
+            next.incoming.counted = within.counted;
+            next.incoming.progress = within.progress;
+            return Turn {
+                answer: Answer::More,
+                taken: piece.len(),
+                session: next,
+            };
+        }
+        let taken = message::pump::take_bytes(
+            settings,
+            session.state,
+            incoming,
+            piece,
+            message,
+            control,
+        );
+        let answer = taken.answer;
+        let come = taken.incoming;
+        if is_quiet(answer, end) {
+            let mut next = session;
+            next.incoming = come;
+            return Turn {
+                answer,
+                taken: taken.at,
+                session: next,
+            };
+        }
+        let stays = session.reply;
+        let gone = left_by(
+            answer,
+            taken.at,
+            come,
+            session.state,
+            session.refusal,
+            stays,
+            end,
+            control,
+        );
+        let told = gone.answer;
+        let reached = gone.incoming;
+        let left = gone.reply;
+        let mut next = session;
+        next.state = gone.state;
+        next.refusal = gone.refusal;
+        next.incoming = reached;
+        next.reply = left;
+        return Turn {
+            answer: told,
+            taken: gone.taken,
+            session: next,
+        };
+    }
+    let due = session.reply;
     let first = masks.first;
     let client = settings.role == session::CLIENT;
-    let moved = replies::reply::move_reply(client, reply, session.held, first, output);
+    let moved = replies::reply::move_reply(client, due, session.held, first, output);
     let waits = moved.reply;
     let gone = read_on(
         settings,

@@ -24,26 +24,29 @@ pub const CLOSE_ACKNOWLEDGED: u8 = 3;
 
 pub const TERMINATED: u8 = 4;
 
+// The wide fields of a struct stand before the narrow ones: what lies between them would be copied with each session.
 pub struct Settings {
-    pub role: u8,
     // the frame limit and the message limit
     pub frame: usize,
     pub message: usize,
+    pub role: u8,
     // frames to a server may come without a mask
     pub unmasked: bool,
 }
 
 // What has come of a frame and of a message.
 pub struct Incoming {
-    // the header's bytes and how many are kept
-    pub header: [u8; 14],
+    // how many bytes of the header are kept
     pub kept: usize,
     // payload bytes counted
     pub counted: usize,
-    // a fragmented message is begun, it is text, and its fragments so far have so many bytes
+    // the bytes of the fragments so far, where a fragmented message is begun
+    pub fragments: usize,
+    // the header's bytes
+    pub header: [u8; 14],
+    // a fragmented message is begun, and it is text
     pub begun: bool,
     pub text: bool,
-    pub fragments: usize,
     // of the UTF-8 check
     pub progress: u8,
 }

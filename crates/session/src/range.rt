@@ -7,10 +7,11 @@ use frame::header::FrameHeader;
 use frame::header::Parsed;
 ghost use mathlib.Core.Path.{_≡_};
 ghost use mathlib.Core.Bool.{not};
+ghost use Prim.Native.Nat.{_≤_, _<_};
 ghost use lib.Dec.{eqb, leb};
 ghost use Rattle.base.specs.Tests.{both, either, firstOf};
-ghost use Rattle.frame.specs.Header.{sizeBy};
-ghost use Rattle.session.specs.Frames.{isReserved, headerTests};
+ghost use Rattle.frame.specs.Header.{sizeBy, parsed};
+ghost use Rattle.session.specs.Frames.{isReserved, headerTests, kept};
 ghost use Rattle.session.specs.Range.{limitsHold, settingsHold, numbersHold, headerHolds, countHolds, incomingHolds, waits, replyHolds, rangeOf};
 
 pub const MOST_FRAME: usize = 16777216;
@@ -104,28 +105,53 @@ fn frame_holds(settings: Settings, refusal: u8, header: FrameHeader, counted: us
     false
 }
 
-fn header_and_count_hold(settings: Settings, refusal: u8, incoming: Incoming) -> bool
+// How many bytes of the header there are to be read: more are kept than there are only in a session that is out of range.
+fn kept_bytes(kept: usize) -> usize
+    ensures { λ r. ⌜ (r ≤ 14) × (kept ≤ 14 → r ≡ kept) × (14 < kept → r ≡ 14) ⌝ }
+{
+    if 14 < kept {
+        return 14;
+    }
+    kept
+}
+
+// The header that is kept, read.
+pub fn kept_header(incoming: Incoming) -> Parsed
+    ensures { λ r. ⌜ r ≡ parsed (kept incoming) ⌝ }
+{
+    let bytes = incoming.header;
+    let n = kept_bytes(incoming.kept);
+    frame::header::parse(&bytes[..n])
+}
+
+fn header_and_count_hold(
+    settings: Settings,
+    refusal: u8,
+    incoming: Incoming,
+    header: Parsed,
+) -> bool
+    requires { ⌜ header ≡ parsed (kept incoming) ⌝ }
     ensures { λ r. ⌜ r ≡ both (headerHolds settings refusal incoming) (countHolds incoming) ⌝ }
 {
     let bytes = incoming.header;
-    let kept = incoming.kept;
-    if kept_holds(bytes[1], kept) {
-        match frame::header::parse(&bytes[..kept]) {
+    if kept_holds(bytes[1], incoming.kept) {
+        match header {
             Parsed::Lacking => {
                 if incoming.counted == 0 {
                     return true;
                 }
                 return false;
             }
-            Parsed::Whole(header) => {
-                return frame_holds(settings, refusal, header, incoming.counted);
+            Parsed::Whole(whole) => {
+                return frame_holds(settings, refusal, whole, incoming.counted);
             }
         }
     }
     false
 }
 
-fn incoming_holds(settings: Settings, refusal: u8, incoming: Incoming) -> bool
+fn incoming_holds(settings: Settings, refusal: u8, incoming: Incoming, header: Parsed) -> bool
+    requires { ⌜ header ≡ parsed (kept incoming) ⌝ }
     ensures { λ r. ⌜ r ≡ incomingHolds settings refusal incoming ⌝ }
 {
     if utf8::BAD < incoming.progress {
@@ -134,7 +160,7 @@ fn incoming_holds(settings: Settings, refusal: u8, incoming: Incoming) -> bool
     if settings.message < incoming.fragments {
         return false;
     }
-    header_and_count_hold(settings, refusal, incoming)
+    header_and_count_hold(settings, refusal, incoming, header)
 }
 
 // Whether a reply waits.
@@ -160,7 +186,31 @@ fn reply_holds(waiting: Waiting, length: usize) -> bool
     true
 }
 
-// Whether the numbers of a session are in range. It takes the session's parts, since no payload is looked at.
+// Whether the numbers of a session are in range. It takes the session's parts, since no payload is looked at, and the kept header beside
+// them, since who asks may want it too.
+pub fn in_range_by(
+    settings: Settings,
+    state: u8,
+    refusal: u8,
+    incoming: Incoming,
+    header: Parsed,
+    waiting: Waiting,
+    length: usize,
+) -> bool
+    requires { ⌜ header ≡ parsed (kept incoming) ⌝ }
+    ensures { λ r. ⌜ r ≡ rangeOf settings state refusal incoming waiting length ⌝ }
+{
+    if settings_hold(settings) {
+        if numbers_hold(state, refusal) {
+            if reply_holds(waiting, length) {
+                return incoming_holds(settings, refusal, incoming, header);
+            }
+        }
+    }
+    false
+}
+
+// The same of the parts alone.
 pub fn in_range(
     settings: Settings,
     state: u8,
@@ -171,12 +221,6 @@ pub fn in_range(
 ) -> bool
     ensures { λ r. ⌜ r ≡ rangeOf settings state refusal incoming waiting length ⌝ }
 {
-    if settings_hold(settings) {
-        if numbers_hold(state, refusal) {
-            if reply_holds(waiting, length) {
-                return incoming_holds(settings, refusal, incoming);
-            }
-        }
-    }
-    false
+    let header = kept_header(incoming);
+    in_range_by(settings, state, refusal, incoming, header, waiting, length)
 }

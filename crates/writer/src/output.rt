@@ -80,7 +80,8 @@ pub fn held(session: Session, output: &[u8]) -> &[u8]
     &output[..count]
 }
 
-// Takes the first n held bytes away and moves the rest to the front.
+// Takes the first n held bytes away and moves the rest to the front. The number is that of showing them, by the session's parts: it is
+// asked for after every message, and `held_number` would be handed a copy of the session.
 pub fn take(session: Session, n: usize, output: &mut [u8]) -> Handed
     ensures { λ r. ⌜ sending (r .sent) (r .session) (now (output .exit)) ≡ takeCall session n (now (output .entry)) ⌝ }
 {
@@ -91,7 +92,20 @@ pub fn take(session: Session, n: usize, output: &mut [u8]) -> Handed
             session,
         };
     }
-    let number = held_number(session, output);
+    let settings = session.settings;
+    let incoming = session.incoming;
+    let reply = session.reply;
+    let waiting = reply.waiting;
+    let number = owed(
+        settings,
+        session.state,
+        session.refusal,
+        incoming,
+        waiting,
+        reply.length,
+        held,
+        output.len(),
+    );
     if number != 0 {
         return Handed {
             sent: Sent::Refused(number),

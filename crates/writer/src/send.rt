@@ -80,6 +80,7 @@ fn send(
 {
     let settings = session.settings;
     let incoming = session.incoming;
+    // Of the reply, its kind and length; its bytes are copied where it moves.
     let reply = session.reply;
     let waiting = reply.waiting;
     let held = session.held;
@@ -118,8 +119,18 @@ fn send(
         output,
         held,
     );
+    if !session::range::waits(waiting) {
+        let mut next = session;
+        next.state = state;
+        next.held = behind;
+        return Handed {
+            sent: Sent::Done,
+            session: next,
+        };
+    }
+    let waits = session.reply;
     let second = masks.second;
-    let moved = replies::reply::move_reply(client, reply, behind, second, output);
+    let moved = replies::reply::move_reply(client, waits, behind, second, output);
     let left = moved.reply;
     let mut next = session;
     next.state = state;

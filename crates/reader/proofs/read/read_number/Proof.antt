@@ -12,13 +12,13 @@ use Rattle.reader.proofs.read.read_number.Tie as tie
 -- the session is in range
 module _ (c : tie.Else1) where
   inside : not (rangeOf (c .before .before .args .settings) (c .before .before .args .state) (c .before .before .args .refusal) (c .before .before .args .incoming) (c .before .before .args .waiting) (c .before .before .args .count)) ≡ false
-  inside = ap not (sym (c .before .in-range .ensures)) ∙ c .if1 .left
+  inside = ap not (sym (c .before .in-range-by .ensures)) ∙ c .if1 .left
 
-in-range-requires : tie.Need-in-range-requires
-in-range-requires c κs = search needs
+in-range-by-requires : tie.Need-in-range-by-requires
+in-range-by-requires c κs = search needs
 
 returns : tie.Need-returns
-returns c = met 20 _ (ap not (sym (c .before .in-range .ensures)) ∙ c .if1 .taken)
+returns c = met 20 _ (ap not (sym (c .before .in-range-by .ensures)) ∙ c .if1 .taken)
 
 is-short-requires : tie.Need-is-short-requires
 is-short-requires c κs = search needs
@@ -41,4 +41,4 @@ returns-4 c =
 pub read-number-spec : {M : Type 1} → statement M
 read-number-spec =
     tie.close
-    (tie.spec in-range-requires returns is-short-requires returns-2 returns-3 returns-4)
+    (tie.spec in-range-by-requires returns is-short-requires returns-2 returns-3 returns-4)

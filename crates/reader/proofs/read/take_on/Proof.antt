@@ -9,7 +9,7 @@ use Rattle.session.specs.Range.{inRange}
 use Rattle.session.proofs.InRange.{range-session, good}
 use Rattle.steady.specs.Shape.{Shaped}
 use Rattle.reader.specs.Whole.{sessionOf}
-use Rattle.reader.proofs.Turns.{shows, same-control, take-done}
+use Rattle.reader.proofs.Turns.{shows, same-control, take-left}
 use Rattle.reader.proofs.read.take_on.Statement.{statement}
 use Rattle.reader.proofs.read.take_on.Tie as tie
 
@@ -30,15 +30,12 @@ module _ (c : tie.After-take-bytes) where
 take-bytes-requires : tie.Need-take-bytes-requires
 take-bytes-requires c κs = let s = c .before .before .before .before .before in (good (s .pre .0) .kept-most, s .pre .1)
 
-conclude-with-requires : tie.Need-conclude-with-requires
-conclude-with-requires c κs =
-    let taken = c .before .before .before .before .before in (
+left-by-requires : tie.Need-left-by-requires
+left-by-requires c κs =
+    let taken = c .before .before .before .before .before .before in (
       shows (whole (start taken) 0) _ _ _ (taken .take-bytes .ensures) (shaped (start taken)) (ranged (start taken)),
       omega (arith, same-control (whole (start taken) 0) _ _ _ (taken .take-bytes .ensures), start taken .pre .1 .1),
     )
-
-flag-requires : tie.Need-flag-requires
-flag-requires c κs = search needs
 
 same-length : tie.Need-same-length
 same-length c = search needs
@@ -48,18 +45,15 @@ same-length-2 c = search needs
 
 returns : tie.Need-returns
 returns c held output =
-    let flagged = c .before .before in
-    let left = flagged .before .before .before in
-    let taken = left .before .before .before .before .before .before in
-    take-done (whole (start taken) held) _ _ _ (taken .take-bytes .ensures) _ (left .conclude-with .ensures _ _ held) (flagged .flag .ensures .0) (flagged .flag .ensures .1) output
+    let taken = c .before .before .before .before .before .before .before .before .before in
+    take-left (whole (start taken) held) _ _ _ (taken .take-bytes .ensures) _ (c .before .before .left-by .ensures _ held) output
 
 pub take-on-spec : {M : Type 1} → statement M
 take-on-spec =
     tie.close
     (tie.spec
     take-bytes-requires
-    conclude-with-requires
-    flag-requires
+    left-by-requires
     same-length
     same-length-2
     returns)

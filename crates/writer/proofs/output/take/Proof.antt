@@ -3,27 +3,29 @@ use mathlib.Core.Path.{_≡_, sym, _∙_}
 use native.Mathlib.Omega.{arith}
 use borrow.Author.Needs.{needs}
 use Rattle.base.specs.Tests.{firstOf}
-use Rattle.session.specs.Calls.{takeTests}
+use Rattle.session.specs.Calls.{outputShort, heldNumber, takeTests}
+use Rattle.session.specs.Range.{inRange}
 use Rattle.writer.proofs.Calls.{held-within, take-many, take-few, take-owed, take-done}
 use Rattle.writer.proofs.output.take.Statement.{statement}
 use Rattle.writer.proofs.output.take.Tie as tie
 
 -- no more are taken than are held, so the number is that of showing them
-module _ (c : tie.After-held-number) where
+module _ (c : tie.After-owed) where
   abbrev start : tie.Start
-  start = c .before .before .before .before
+  start = c .before .before .before .before .before .before
 
-  numbered : c .held-number .result ≡ firstOf (takeTests (start .args .session) (start .args .n) (start .args .output .now))
-  numbered = c .held-number .ensures ∙ sym (take-few _ _ _ (c .before .before .if1 .left))
+  shown : c .owed .result ≡ heldNumber (start .args .session) (start .args .output .now)
+  unfolding heldNumber outputShort inRange
+  shown = c .owed .ensures
+
+  numbered : c .owed .result ≡ firstOf (takeTests (start .args .session) (start .args .n) (start .args .output .now))
+  numbered = shown ∙ sym (take-few _ _ _ (c .before .before .before .before .if1 .left))
 
 returns : tie.Need-returns
 returns c = take-owed _ _ _ (take-many _ _ _ (c .if1 .taken)) (omega arith)
 
-held-number-requires : tie.Need-held-number-requires
-held-number-requires c κs = search needs
-
-same-length : tie.Need-same-length
-same-length c = search needs
+owed-requires : tie.Need-owed-requires
+owed-requires c κs = search needs
 
 returns-2 : tie.Need-returns-2
 returns-2 c = take-owed _ _ _ (numbered (c .before)) (c .if2 .taken)
@@ -31,10 +33,10 @@ returns-2 c = take-owed _ _ _ (numbered (c .before)) (c .if2 .taken)
 to-front-requires : tie.Need-to-front-requires
 to-front-requires c κs =
     let number = c .before .before in
-    (number .before .before .if1 .left, held-within _ _ (sym (number .held-number .ensures) ∙ c .before .if2 .left))
+    (number .before .before .before .before .if1 .left, held-within _ _ (sym (shown number) ∙ c .before .if2 .left))
 
-same-length-2 : tie.Need-same-length-2
-same-length-2 c = search needs
+same-length : tie.Need-same-length
+same-length c = search needs
 
 returns-3 : tie.Need-returns-3
 returns-3 c =
@@ -47,9 +49,8 @@ take-spec =
     tie.close
     (tie.spec
     returns
-    held-number-requires
-    same-length
+    owed-requires
     returns-2
     to-front-requires
-    same-length-2
+    same-length
     returns-3)

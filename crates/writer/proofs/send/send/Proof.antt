@@ -17,6 +17,7 @@ use Rattle.session.specs.Replies.{encoded, fits}
 use Rattle.session.specs.Session.{isClient}
 use Rattle.writer.proofs.Calls.{send-owed, send-no-room, send-done}
 use Rattle.replies.proofs.Encoding.{fits-within, fits-by-parts}
+use Rattle.replies.proofs.Moving.{waits-not}
 use Rattle.writer.proofs.Numbers.{Clear, clear, reply-short}
 use Rattle.writer.proofs.send.send.Statement.{statement}
 use Rattle.writer.proofs.send.send.Tie as tie
@@ -95,20 +96,34 @@ put-frame-requires c κs =
     leb-true _ _ (sym (fit .fits-in .ensures) ∙ not-false _ (c .before .before .if2 .left)) in
     (begin fit .pre, omega (arith, size, all-clear (fit .before .before) .held-within))
 
-move-reply-requires : tie.Need-move-reply-requires
-move-reply-requires c κs =
-    let put = c .before .before .before .before in
-    let fit = put .before .before .before in
-    let same : length (put .put-frame .last .1 .1 .1 .1 .1 .1 .0) ≡ length (begin (fit .before) .args .output .now) = ap length (put .put-frame .ensures .1) ∙ simp length-laid in
-    (reply-short _ (all-clear (fit .before .before .before) .in-range), omega (arith, same, put .put-frame .ensures .0, room fit))
+waits-requires : tie.Need-waits-requires
+waits-requires c κs = search needs
 
 same-length : tie.Need-same-length
 same-length c = search needs
 
 returns-3 : tie.Need-returns-3
 returns-3 c =
+    let put = c .before .before .before .before in
+    let fit = put .before .before .before in
+    let a = begin (fit .before) .args in
+    send-done _ _ _ _ _ _ _ (none-owed (fit .before .before .before)) (fitting fit) (put .put-frame .ensures .0) (put .put-frame .ensures .1)
+    (waits-not (isClient (a .session .settings)) (a .session .reply) _ (a .masks .second) _ (sym (c .before .waits .ensures) ∙ not-true _ (c .if3 .taken)))
+
+move-reply-requires : tie.Need-move-reply-requires
+move-reply-requires c κs =
+    let put = c .before .before .before .before .before .before .before in
+    let fit = put .before .before .before in
+    let same : length (put .put-frame .last .1 .1 .1 .1 .1 .1 .0) ≡ length (begin (fit .before) .args .output .now) = ap length (put .put-frame .ensures .1) ∙ simp length-laid in
+    (reply-short _ (all-clear (fit .before .before .before) .in-range), omega (arith, same, put .put-frame .ensures .0, room fit))
+
+same-length-2 : tie.Need-same-length-2
+same-length-2 c = search needs
+
+returns-4 : tie.Need-returns-4
+returns-4 c =
     let moved = c .before .before .before in
-    let put = moved .before .before .before .before .before in
+    let put = moved .before .before .before .before .before .before .before .before in
     let fit = put .before .before .before in
     send-done _ _ _ _ _ _ _ (none-owed (fit .before .before .before)) (fitting fit) (put .put-frame .ensures .0) (put .put-frame .ensures .1) (moved .move-reply .ensures)
 
@@ -122,6 +137,9 @@ send-spec =
     fits-in-requires
     returns-2
     put-frame-requires
-    move-reply-requires
+    waits-requires
     same-length
-    returns-3)
+    returns-3
+    move-reply-requires
+    same-length-2
+    returns-4)

@@ -1,10 +1,10 @@
--- `session::range::in_range` meets its contract.
+-- `session::range::in_range_by` meets its contract.
 use mathlib.Core.Path.{sym, _∙_}
 use borrow.Author.Needs.{needs}
 use Rattle.session.specs.Range.{rangeOf}
 use Rattle.session.proofs.Choices.{both-none, both-all}
-use Rattle.session.proofs.range.in_range.Statement.{statement}
-use Rattle.session.proofs.range.in_range.Tie as tie
+use Rattle.session.proofs.range.in_range_by.Statement.{statement}
+use Rattle.session.proofs.range.in_range_by.Tie as tie
 
 settings-hold-requires : tie.Need-settings-hold-requires
 settings-hold-requires c κs = search needs
@@ -44,8 +44,8 @@ returns-4 : tie.Need-returns-4
 unfolding rangeOf
 returns-4 c = simp (sym (c .before .settings-hold .ensures) ∙ c .if1 .left)
 
-pub in-range-spec : {M : Type 1} → statement M
-in-range-spec =
+pub in-range-by-spec : {M : Type 1} → statement M
+in-range-by-spec =
     tie.close
     (tie.spec
     settings-hold-requires
