@@ -41,7 +41,7 @@ CASES = [
     ("a short row at half", [send("binary by a server", 125, 0.5, 1.0)], 0, "every row reaches its target"),
     ("a short row below half", [send("text, ASCII, by a server", 5, 0.49, 1.0)], 1, "1 below their target"),
     ("a masked row below half by the byte-wise work", [LEAF, send("binary, masked, by a client", 100, 2.0, 12.0)], 0, "0.17~"),
-    ("a masked row below half by more than that", [LEAF, send("binary, masked, by a client", 100, 2.0, 13.0)], 1, "0.15!"),
+    ("a masked row below half by more than that", [LEAF, send("binary, masked, by a client", 100, 2.0, 14.0)], 1, "0.14!"),
     ("a masked row without the leaves", [send("binary, masked, by a client", 100, 2.0, 12.0)], 1, "0.17!"),
     ("a cost that grows with its bytes", [by_size("binary to a client", 64 * KIB, 1, 1, 1), by_size("binary to a client", 128 * KIB, 2, 2, 2)], 0, "every row"),
     ("a cost that grows faster", [by_size("binary to a client", 64 * KIB, 1, 1, 1), by_size("binary to a client", 128 * KIB, 2, 4, 2)], 1, "2.00 times"),
