@@ -112,28 +112,6 @@ pub(crate) fn lay_run(
     checked(text, incoming, message, at, run.len())
 }
 
-// A run of payload bytes.
-fn store_run(
-    settings: Settings,
-    state: u8,
-    header: FrameHeader,
-    incoming: Incoming,
-    run: &[u8],
-    message: &mut [u8],
-    control: &mut [u8],
-) -> Incoming
-    requires { ⌜ header ≡ frame incoming ⌝ }
-    requires { ⌜ firstOf (headerTests settings header) ≡ 0 ⌝ }
-    requires { ⌜ incoming .kept ≤ 14 ⌝ }
-    requires { ⌜ incoming .counted + length (now run) ≤ header .length ⌝ }
-    requires { ⌜ settings .message ≤ length (now message) ⌝ }
-    requires { ⌜ 125 ≤ length (now control) ⌝ }
-    ensures { λ r. ⌜ world (r) (now (message .exit)) (now (control .exit)) Answer.More ≡ stored settings state (world incoming (now (message .entry)) (now (control .entry)) Answer.More) (now (run .entry)) ⌝ }
-{
-    let progress = lay_run(settings, state, header, incoming, run, message, control);
-    count_on(incoming, run.len(), progress)
-}
-
 // A run of payload bytes, where there are any.
 pub(crate) fn store_some(
     settings: Settings,
@@ -155,5 +133,6 @@ pub(crate) fn store_some(
     if run.len() == 0 {
         return incoming;
     }
-    store_run(settings, state, header, incoming, run, message, control)
+    let progress = lay_run(settings, state, header, incoming, run, message, control);
+    count_on(incoming, run.len(), progress)
 }
