@@ -17,8 +17,9 @@ import re
 import sys
 from pathlib import Path
 
-# The fact of a function that was not tried: something that it rests on was refused, or its proof speaks of what is no longer there.
-NOT_A_FACT = ["was not admitted", "can be named from here"]
+# No fact of a function was tried: what it rests on was refused, or its proof speaks of what is no longer there.
+FELL_WITH_ANOTHER = "was not admitted"
+LOST_ITS_FIT = ["can be named from here", "has no field"]
 
 
 class Tally:
@@ -142,9 +143,8 @@ def judge(tally, crate, edit, tried):
         tally.check(not wrong.functions & seen, f"{said}: another wrong answer of the file is in the same function")
         seen |= wrong.functions
         found = [fact for function in wrong.functions for fact in facts.get(function, [])]
-        lost = [fact for fact in found if "can be named from here" in fact]
-        tally.check(not lost, f"{said}: the proof did not fit, so no fact was tried")
-        tally.check(any(not any(sign in fact for sign in NOT_A_FACT) for fact in found), f"{said}: no fact of its function failed")
+        tally.check(not any(sign in fact for fact in found for sign in LOST_ITS_FIT), f"{said}: the proof did not fit, so no fact was tried")
+        tally.check(any(FELL_WITH_ANOTHER not in fact for fact in found), f"{said}: no fact of its function failed")
     return [wrong.name for wrong in wrongs]
 
 

@@ -109,28 +109,38 @@ fn turn(
     follow(came, next, used, at, bytes, lines)
 }
 
-// A proved loop has to end, and nothing says that the input does. So the loop counts its turns down, from a number that no run uses up.
+// Steps to the listing's end. A proved loop has to end, and nothing says that the input does. So the loop counts its turns down, from a
+// number that no run uses up. It does not stand where the arrays do, since that is dear to check.
+fn run(
+    bytes: &mut Bytes,
+    message: &mut Message,
+    control: &mut Control,
+    output: &mut Output,
+    lines: &mut Lines,
+) {
+    let replay = capture::step::begin();
+    let mut went = went_on(replay, input::none(), 0);
+    let mut turns = u64::MAX;
+    while turns > 0 {
+        went = turn(went, bytes, message, control, output, lines);
+        if !went.on {
+            break;
+        }
+        turns -= 1;
+    }
+}
+
 fn main() {
     let mut bytes = [0u8; 131072];
     let mut message = [0u8; 32768];
     let mut control = [0u8; 125];
     let mut output = [0u8; 131];
     let mut lines = [0u8; 131200];
-    let replay = capture::step::begin();
-    let mut went = went_on(replay, input::none(), 0);
-    let mut turns = u64::MAX;
-    while turns > 0 {
-        went = turn(
-            went,
-            &mut bytes,
-            &mut message,
-            &mut control,
-            &mut output,
-            &mut lines,
-        );
-        if !went.on {
-            break;
-        }
-        turns -= 1;
-    }
+    run(
+        &mut bytes,
+        &mut message,
+        &mut control,
+        &mut output,
+        &mut lines,
+    );
 }
