@@ -1,1 +1,4 @@
+pub mod Splitting
+pub mod Reading
 pub mod Putting
+pub mod OneAnswer

@@ -1,6 +1,9 @@
 // Numbers and bytes as a script writes them.
+ghost use mathlib.Core.Path.{_≡_};
 ghost use Prim.Native.Nat.{_≤_, _/_};
 ghost use lib.ListN.{length};
+ghost use Rattle.base.specs.Stores.{laid};
+ghost use Rattle.script.specs.Values.{moreOf, decimalOf, bitsOf, byteOf, allDigits, bytesOf, hexOf, hexLaid};
 
 // A value, or that it can't be understood.
 pub enum Value {
@@ -9,7 +12,9 @@ pub enum Value {
 }
 
 // A number with another digit behind it.
-fn more(n: u64, digit: u8) -> Value {
+fn more(n: u64, digit: u8) -> Value
+    ensures { λ r. ⌜ r ≡ moreOf (Value.Is n) digit ⌝ }
+{
     if digit < b'0' {
         return Value::Bad;
     }
@@ -28,7 +33,9 @@ fn more(n: u64, digit: u8) -> Value {
 }
 
 // A number in decimal: one to twenty digits, and below 2^64. Zeros may stand before it.
-pub fn decimal(word: &[u8]) -> Value {
+pub fn decimal(word: &[u8]) -> Value
+    ensures { λ r. ⌜ r ≡ decimalOf (now (word .entry)) ⌝ }
+{
     if word.len() < 1 {
         return Value::Bad;
     }
@@ -52,7 +59,9 @@ pub fn decimal(word: &[u8]) -> Value {
 }
 
 // The four bits of a hexadecimal digit, in lower case; 16 where it is none.
-fn bits(digit: u8) -> u8 {
+fn bits(digit: u8) -> u8
+    ensures { λ r. ⌜ r ≡ bitsOf digit ⌝ }
+{
     match digit {
         b'0'..=b'9' => digit - 48,
         b'a'..=b'f' => digit - 87,
@@ -61,12 +70,16 @@ fn bits(digit: u8) -> u8 {
 }
 
 // The byte of two digits.
-fn joined(high: u8, low: u8) -> u8 {
+fn joined(high: u8, low: u8) -> u8
+    ensures { λ r. ⌜ r ≡ byteOf high low ⌝ }
+{
     (bits(high) % 16) * 16 + bits(low) % 16
 }
 
 // Whether all bytes are digits.
-fn digits(word: &[u8]) -> bool {
+fn digits(word: &[u8]) -> bool
+    ensures { λ r. ⌜ r ≡ allDigits (now (word .entry)) ⌝ }
+{
     let mut i = 0;
     while i < word.len() {
         if 15 < bits(word[i]) {
@@ -78,7 +91,9 @@ fn digits(word: &[u8]) -> bool {
 }
 
 // How many bytes a word stands for, where there is room for so many.
-fn told(word: &[u8], room: usize) -> Value {
+fn told(word: &[u8], room: usize) -> Value
+    ensures { λ r. ⌜ r ≡ hexOf (now (word .entry)) room ⌝ }
+{
     if crate::words::same(word, b"-") {
         return Value::Is(0);
     }
@@ -100,6 +115,7 @@ fn told(word: &[u8], room: usize) -> Value {
 // Lays a byte for each two digits over the store's front.
 fn lay(word: &[u8], given: &mut [u8])
     requires { ⌜ length (now word) / 2 ≤ length (now given) ⌝ }
+    ensures { λ _. ⌜ now (given .exit) ≡ laid (now (given .entry)) 0 (bytesOf (now (word .entry))) ⌝ }
 {
     let mut i = 0;
     while i < word.len() / 2 {
@@ -110,10 +126,9 @@ fn lay(word: &[u8], given: &mut [u8])
 
 // The bytes of a word: two digits for each, or `-` for none. They are laid over the store's front, and their number is told. The digits are
 // looked at first, so that a word that can't be understood changes no byte.
-pub fn hex(word: &[u8], given: &mut [u8]) -> Value {
-    if given.len() < word.len() / 2 {
-        return Value::Bad;
-    }
+pub fn hex(word: &[u8], given: &mut [u8]) -> Value
+    ensures { λ r. ⌜ (r ≡ hexOf (now (word .entry)) (length (now (given .entry)))) × (now (given .exit) ≡ hexLaid (now (word .entry)) (now (given .entry))) ⌝ }
+{
     match told(word, given.len()) {
         Value::Is(n) => {
             lay(word, given);

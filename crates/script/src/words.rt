@@ -1,10 +1,14 @@
 // A line's words, which one space parts. Two spaces, or one at either end, leave an empty word.
-ghost use Prim.Native.Nat.{_≤_};
-ghost use lib.ListN.{length};
+ghost use mathlib.Core.Path.{_≡_};
+ghost use mathlib.Core.List.{[]};
+ghost use Prim.Native.Nat.{min};
+ghost use denote.Ref.{ptr};
+ghost use lib.ListN.{length, getD, drop};
+ghost use Rattle.script.specs.Words.{further, findIn, wordsOf, sameBytes, placeIn};
 
 // The place of the first such byte, or the length.
 pub fn find(all: &[u8], byte: u8) -> usize
-    ensures { λ r. ⌜ r ≤ length (now (all .entry)) ⌝ }
+    ensures { λ r. ⌜ r ≡ findIn byte (now (all .entry)) ⌝ }
 {
     let mut at = 0;
     while at < all.len() {
@@ -17,7 +21,9 @@ pub fn find(all: &[u8], byte: u8) -> usize
 }
 
 // A byte, 0 behind the end.
-pub fn byte(all: &[u8], i: usize) -> u8 {
+pub fn byte(all: &[u8], i: usize) -> u8
+    ensures { λ r. ⌜ r ≡ getD (now (all .entry)) i 0 ⌝ }
+{
     if i < all.len() {
         return all[i];
     }
@@ -25,15 +31,19 @@ pub fn byte(all: &[u8], i: usize) -> u8 {
 }
 
 // The bytes from place `from` on, none behind the end.
-pub fn behind(all: &[u8], from: usize) -> &[u8] {
+pub fn behind(all: &[u8], from: usize) -> &[u8]
+    ensures { λ r. ⌜ (now r ≡ drop from (now (all .entry))) × (ptr r ≡ further (min from (length (now (all .entry)))) (ptr (all .entry))) ⌝ }
+{
     if from <= all.len() {
         return &all[from..];
     }
-    &all[..0]
+    &all[all.len()..]
 }
 
 // How many words a line has.
-pub fn count(line: &[u8]) -> usize {
+pub fn count(line: &[u8]) -> usize
+    ensures { λ r. ⌜ r ≡ length (wordsOf (now (line .entry))) ⌝ }
+{
     let mut words = 1;
     let mut i = 0;
     while i < line.len() {
@@ -46,7 +56,9 @@ pub fn count(line: &[u8]) -> usize {
 }
 
 // The k-th word, from 0, and no byte where there are fewer.
-pub fn word(line: &[u8], k: usize) -> &[u8] {
+pub fn word(line: &[u8], k: usize) -> &[u8]
+    ensures { λ r. ⌜ now r ≡ getD (wordsOf (now (line .entry))) k [] ⌝ }
+{
     let mut rest = line;
     let mut left = k;
     while 0 < left {
@@ -62,7 +74,9 @@ pub fn word(line: &[u8], k: usize) -> &[u8] {
 }
 
 // Whether two words are the same.
-pub(crate) fn same(word: &[u8], name: &[u8]) -> bool {
+pub(crate) fn same(word: &[u8], name: &[u8]) -> bool
+    ensures { λ r. ⌜ r ≡ sameBytes (now (word .entry)) (now (name .entry)) ⌝ }
+{
     if word.len() != name.len() {
         return false;
     }
@@ -77,7 +91,9 @@ pub(crate) fn same(word: &[u8], name: &[u8]) -> bool {
 }
 
 // The place of a word among some names, which one space parts, and how many names there are where it is none of them.
-pub fn place(names: &[u8], word: &[u8]) -> usize {
+pub fn place(names: &[u8], word: &[u8]) -> usize
+    ensures { λ r. ⌜ r ≡ placeIn (wordsOf (now (names .entry))) (now (word .entry)) ⌝ }
+{
     let mut others = names;
     let mut passed = 0;
     loop {
