@@ -2,3 +2,4 @@ pub mod Splitting
 pub mod Reading
 pub mod Putting
 pub mod OneAnswer
+pub mod Worked

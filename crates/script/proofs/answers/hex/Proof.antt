@@ -43,7 +43,8 @@ returns-2 c =
     let digits = c .before .before in
     let space = digits .before .before .before .before in
     let test = space .before .before .before in
-    bytes-on _ _ _ (test .before .before .if1 .left) (sym (test .before .has-room .ensures) ∙ test .if2 .taken) (space .put-word .ensures)
+    let a = test .before .before .before .before .before .args in
+    bytes-on (a .out .now) (a .at) (a .bytes .now) (test .before .before .if1 .left) (sym (test .before .has-room .ensures) ∙ test .if2 .taken) (space .put-word .ensures)
     (digits .put-hex .ensures)
 
 returns-3 : tie.Need-returns-3

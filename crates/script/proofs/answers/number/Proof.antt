@@ -32,7 +32,8 @@ returns c =
     let digits = c .before .before in
     let space = digits .before .before .before .before in
     let test = space .before .before .before in
-    number-on _ _ _ (sym (test .before .has-room .ensures) ∙ test .if1 .taken) (space .put-word .ensures) (digits .put-decimal .ensures)
+    let a = test .before .before .before .args in
+    number-on (a .out .now) (a .at) (a .n) (sym (test .before .has-room .ensures) ∙ test .if1 .taken) (space .put-word .ensures) (digits .put-decimal .ensures)
 
 returns-2 : tie.Need-returns-2
 returns-2 c = put-not _ _ _ _ (sym (c .before .has-room .ensures) ∙ c .if1 .left)
