@@ -19,12 +19,12 @@ moreOf (Is n) d =
     (pick (ltb (n * 10 + (d - 48)) (2 ^ 64)) (Is (n * 10 + (d - 48))) Bad)
     Bad
 
--- a number with more digits behind it
+-- a number with more digits behind it, one after the other: what is bad stays bad
 unfoldable pub readOn : Value → List ℕ → Value
 readOn v [] = v
 readOn v (d ∷ s) = readOn (moreOf v d) s
 
--- one to twenty digits
+-- the number of a word of one to twenty digits; zeros may stand before it
 unfoldable pub decimalOf : List ℕ → Value
 decimalOf word = pick (within 1 20 (length word)) (readOn (Is 0) word) Bad
 
@@ -37,7 +37,7 @@ unfoldable pub allDigits : List ℕ → Bool
 allDigits [] = true
 allDigits (d ∷ s) = both (leb (bitsOf d) 15) (allDigits s)
 
--- the byte of two digits
+-- the byte of two digits; what is no digit counts as 0 here
 unfoldable pub byteOf : ℕ → ℕ → ℕ
 byteOf high low = bitsOf high % 16 * 16 + bitsOf low % 16
 
