@@ -1,117 +1,116 @@
-// The words that say how calls are to be made: `session`, `masks`, `keep` and `until refused`.
-use crate::state::Given;
+// The words that say how calls are to be made: `session`, `until refused`, `lend`, `masks` and `keep`.
+use crate::ask;
+use crate::names;
+use crate::state::Held;
 use crate::state::State;
 use crate::state::Text;
-use crate::values::Value;
-use session::Handed;
+use crate::told;
 use session::Masks;
 use session::Role;
+use session::Session;
 
-// A session's end by its name, or none.
-enum Named {
-    Is(Role),
-    Bad,
+fn role(place: u64) -> Role {
+    match place {
+        names::SERVER => Role::Server,
+        _ => Role::Client,
+    }
 }
 
-fn role(word: &[u8]) -> Named {
-    if crate::words::same(word, b"client") {
-        return Named::Is(Role::Client);
+// What is lent of the message store at first.
+fn at_first(limit: u64) -> usize {
+    if limit < 70000 {
+        return limit as usize;
     }
-    if crate::words::same(word, b"server") {
-        return Named::Is(Role::Server);
-    }
-    Named::Bad
+    70000
 }
 
 // All as at the start but for `until refused`, which stays.
-fn begun(state: State, made: Handed, message_limit: usize) -> State {
+fn begun(state: State, session: Session, there: bool) -> State {
+    let args = state.args;
+    let masks = crate::state::no_masks();
+    let mut next = state;
+    next.session = session;
+    next.masks = masks;
+    next.message = at_first(args.third);
+    next.control = 125;
+    next.output = 140000;
+    next.reach = 0;
+    next.from = 0;
+    next.to = 0;
+    next.there = there;
+    next.refused = false;
+    next.keep = false;
+    next
+}
+
+// `session client|server FRAME_LIMIT MESSAGE_LIMIT UNMASKED`: the line itself, or the number.
+pub(crate) fn session(state: State, line: &[u8], out: &mut Text) -> State {
+    let args = state.args;
+    let made = session::new::new(
+        role(args.first),
+        args.second as usize,
+        args.third as usize,
+        args.fourth == 1,
+    );
     let session = made.session;
     let sent = made.sent;
-    let lent = crate::state::at_first(message_limit);
-    let masks = crate::state::no_masks();
-    State {
-        session,
-        there: !crate::told::is_refused(sent),
-        refused: false,
-        until: state.until,
-        keep: false,
-        lent,
-        masks,
-        from: 0,
-        to: 0,
-        reach: 0,
-        at: state.at,
-        bad: false,
-    }
+    let said = told::sent(sent);
+    let begun = begun(state, session, said.word == told::OK);
+    let at = echoed(begun, line, said, out);
+    let mut next = begun;
+    next.at = at;
+    next
 }
 
-// The line itself, or the number.
-fn told(state: State, made: Handed, line: &[u8], out: &mut Text) -> State {
+fn echoed(state: State, line: &[u8], said: told::Said, out: &mut Text) -> usize {
     if state.there {
-        let echoed = crate::text::word(out, state.at, line);
-        return crate::state::at(state, crate::text::end(out, echoed));
+        let echoed = script::answers::put(out, state.at, line);
+        return told::end(out, echoed);
     }
-    let sent = made.sent;
-    let said = crate::told::sent(sent, out, state.at);
-    crate::state::at(state, crate::text::end(out, said))
+    let refused = told::say(out, state.at, said);
+    told::end(out, refused)
 }
 
-// `session client|server FRAME_LIMIT MESSAGE_LIMIT UNMASKED`
-pub(crate) fn session(state: State, line: &[u8], out: &mut Text) -> State {
-    let Named::Is(role) = role(crate::words::second(line)) else {
-        return crate::state::bad(state);
-    };
-    let Value::Is(frame) = crate::values::decimal(crate::words::third(line)) else {
-        return crate::state::bad(state);
-    };
-    let Value::Is(message) = crate::values::decimal(crate::words::fourth(line)) else {
-        return crate::state::bad(state);
-    };
-    let Value::Is(unmasked) = crate::values::one_of(crate::words::fifth(line), 1) else {
-        return crate::state::bad(state);
-    };
-    let made = session::new::new(role, frame as usize, message as usize, unmasked == 1);
-    let next = begun(state, made, message as usize);
-    told(next, made, line, out)
-}
-
-fn four(given: &Given, from: usize) -> [u8; 4] {
-    let mut mask = [0u8; 4];
-    let bytes = crate::words::behind(given, from);
-    crate::room::laid(input::front(bytes, 4), &mut mask, 0);
-    mask
+fn four(bytes: &[u8]) -> [u8; 4] {
+    [
+        script::words::byte(bytes, 0),
+        script::words::byte(bytes, 1),
+        script::words::byte(bytes, 2),
+        script::words::byte(bytes, 3),
+    ]
 }
 
 // `masks HEX`
-pub(crate) fn masks(state: State, line: &[u8], given: &mut Given) -> State {
-    if !crate::values::hex_of(crate::words::second(line), 8, given) {
-        return crate::state::bad(state);
-    }
-    let masks = Masks {
-        first: four(given, 0),
-        second: four(given, 4),
-    };
+fn masks(state: State, bytes: &[u8]) -> State {
+    let first = four(bytes);
+    let second = four(script::words::behind(bytes, 4));
+    let masks = Masks { first, second };
     let mut next = state;
     next.masks = masks;
     next
 }
 
-// `keep 0|1`
-pub(crate) fn keep(state: State, line: &[u8]) -> State {
-    let Value::Is(keep) = crate::values::one_of(crate::words::second(line), 1) else {
-        return crate::state::bad(state);
-    };
+// `until refused`, `lend M C O`, `masks HEX`, `keep 0|1`, `set FIELD VALUE`
+pub(crate) fn settings(state: State, held: &Held) -> State {
+    let args = state.args;
     let mut next = state;
-    next.keep = keep == 1;
-    next
-}
-
-// `until refused`
-pub(crate) fn until(state: State, line: &[u8]) -> State {
-    if !crate::words::same(crate::words::second(line), b"refused") {
-        return crate::state::bad(state);
+    let word = state.word;
+    match word {
+        ask::UNTIL => {
+            next.until = true;
+            next
+        }
+        ask::LEND => {
+            next.message = args.first as usize;
+            next.control = args.second as usize;
+            next.output = args.third as usize;
+            next
+        }
+        ask::KEEP => {
+            next.keep = args.first == 1;
+            next
+        }
+        ask::MASKS => masks(state, script::words::behind(held, state.to)),
+        _ => crate::fields::set(state, script::words::behind(held, state.to)),
     }
-    let mut next = state;
-    next.until = true;
-    next
 }

@@ -1,137 +1,21 @@
-// `set FIELD VALUE`: a session's number set by hand.
-use crate::state::Given;
+// `set FIELD VALUE`: a session's number set by hand. A field is the place of its name.
+use crate::names;
 use crate::state::State;
-use crate::values::Value;
 use session::Incoming;
 use session::Reply;
 use session::Session;
 use session::Settings;
 use session::Waiting;
 
-enum Field {
-    Role,
-    Frame,
-    Message,
-    Unmasked,
-    State,
-    Refusal,
-    Header,
-    Kept,
-    Counted,
-    Begun,
-    Text,
-    Fragments,
-    Progress,
-    Waiting,
-    Length,
-    Payload,
-    Held,
-    Bad,
-}
-
-fn setting_named(word: &[u8]) -> Field {
-    if crate::words::same(word, b"role") {
-        return Field::Role;
-    }
-    if crate::words::same(word, b"frame") {
-        return Field::Frame;
-    }
-    if crate::words::same(word, b"message") {
-        return Field::Message;
-    }
-    if crate::words::same(word, b"unmasked") {
-        return Field::Unmasked;
-    }
-    incoming_named(word)
-}
-
-fn incoming_named(word: &[u8]) -> Field {
-    if crate::words::same(word, b"header") {
-        return Field::Header;
-    }
-    if crate::words::same(word, b"kept") {
-        return Field::Kept;
-    }
-    if crate::words::same(word, b"counted") {
-        return Field::Counted;
-    }
-    if crate::words::same(word, b"begun") {
-        return Field::Begun;
-    }
-    if crate::words::same(word, b"text") {
-        return Field::Text;
-    }
-    if crate::words::same(word, b"fragments") {
-        return Field::Fragments;
-    }
-    if crate::words::same(word, b"progress") {
-        return Field::Progress;
-    }
-    reply_named(word)
-}
-
-fn reply_named(word: &[u8]) -> Field {
-    if crate::words::same(word, b"waiting") {
-        return Field::Waiting;
-    }
-    if crate::words::same(word, b"length") {
-        return Field::Length;
-    }
-    if crate::words::same(word, b"payload") {
-        return Field::Payload;
-    }
-    session_named(word)
-}
-
-fn session_named(word: &[u8]) -> Field {
-    if crate::words::same(word, b"state") {
-        return Field::State;
-    }
-    if crate::words::same(word, b"refusal") {
-        return Field::Refusal;
-    }
-    if crate::words::same(word, b"held") {
-        return Field::Held;
-    }
-    Field::Bad
-}
-
-fn bytes(word: &[u8], n: u64, given: &mut Given) -> Value {
-    if crate::values::hex_of(word, n, given) {
-        return Value::Is(n);
-    }
-    Value::Bad
-}
-
-// The value by the field's type. That of an array is laid over the front of `given`.
-fn value(field: Field, word: &[u8], given: &mut Given) -> Value {
-    match field {
-        Field::Role | Field::State | Field::Refusal | Field::Progress => {
-            crate::values::at_most(word, 255)
-        }
-        Field::Unmasked | Field::Begun | Field::Text => crate::values::one_of(word, 1),
-        Field::Waiting => crate::values::one_of(word, 2),
-        Field::Header => bytes(word, 14, given),
-        Field::Payload => bytes(word, 125, given),
-        Field::Bad => Value::Bad,
-        _ => crate::values::decimal(word),
-    }
-}
-
-// A number that `value` found below 256.
-fn small(n: u64) -> u8 {
-    (n % 256) as u8
-}
-
-fn header(given: &Given) -> [u8; 14] {
+fn header(bytes: &[u8]) -> [u8; 14] {
     let mut header = [0u8; 14];
-    crate::room::laid(input::front(given, 14), &mut header, 0);
+    crate::room::lay_over(input::front(bytes, 14), &mut header, 0);
     header
 }
 
-fn payload(given: &Given) -> [u8; 125] {
+fn payload(bytes: &[u8]) -> [u8; 125] {
     let mut payload = [0u8; 125];
-    crate::room::laid(input::front(given, 125), &mut payload, 0);
+    crate::room::lay_over(input::front(bytes, 125), &mut payload, 0);
     payload
 }
 
@@ -143,22 +27,27 @@ fn waiting(n: u64) -> Waiting {
     }
 }
 
-fn settings_with(settings: Settings, field: Field, n: u64) -> Settings {
+// A number below 256.
+fn small(n: u64) -> u8 {
+    (n % 256) as u8
+}
+
+fn settings_with(settings: Settings, field: u64, n: u64) -> Settings {
     let mut next = settings;
     match field {
-        Field::Role => {
-            next.role = small(n);
-            next
-        }
-        Field::Frame => {
-            next.frame = n as usize;
-            next
-        }
-        Field::Message => {
+        names::MESSAGE => {
             next.message = n as usize;
             next
         }
-        Field::Unmasked => {
+        names::FRAME => {
+            next.frame = n as usize;
+            next
+        }
+        names::ROLE => {
+            next.role = small(n);
+            next
+        }
+        names::UNMASKED => {
             next.unmasked = n == 1;
             next
         }
@@ -166,35 +55,35 @@ fn settings_with(settings: Settings, field: Field, n: u64) -> Settings {
     }
 }
 
-fn incoming_with(incoming: Incoming, field: Field, n: u64, given: &Given) -> Incoming {
+fn incoming_with(incoming: Incoming, field: u64, n: u64, bytes: &[u8]) -> Incoming {
     let mut next = incoming;
     match field {
-        Field::Header => {
-            let bytes = header(given);
-            next.header = bytes;
+        names::HEADER => {
+            let header = header(bytes);
+            next.header = header;
             next
         }
-        Field::Kept => {
+        names::KEPT => {
             next.kept = n as usize;
             next
         }
-        Field::Counted => {
+        names::COUNTED => {
             next.counted = n as usize;
             next
         }
-        Field::Begun => {
+        names::BEGUN => {
             next.begun = n == 1;
             next
         }
-        Field::Text => {
+        names::TEXT => {
             next.text = n == 1;
             next
         }
-        Field::Fragments => {
+        names::FRAGMENTS => {
             next.fragments = n as usize;
             next
         }
-        Field::Progress => {
+        names::PROGRESS => {
             next.progress = small(n);
             next
         }
@@ -202,10 +91,10 @@ fn incoming_with(incoming: Incoming, field: Field, n: u64, given: &Given) -> Inc
     }
 }
 
-fn reply_with(reply: Reply, field: Field, n: u64, given: &Given) -> Reply {
+fn reply_with(reply: Reply, field: u64, n: u64, bytes: &[u8]) -> Reply {
     let mut next = reply;
     match field {
-        Field::Waiting => {
+        names::WAITING => {
             let payload = reply.payload;
             Reply {
                 waiting: waiting(n),
@@ -213,31 +102,31 @@ fn reply_with(reply: Reply, field: Field, n: u64, given: &Given) -> Reply {
                 payload,
             }
         }
-        Field::Length => {
+        names::LENGTH => {
             next.length = n as usize;
             next
         }
-        Field::Payload => {
-            let bytes = payload(given);
-            next.payload = bytes;
+        names::PAYLOAD => {
+            let payload = payload(bytes);
+            next.payload = payload;
             next
         }
         _ => reply,
     }
 }
 
-fn session_with(session: Session, field: Field, n: u64) -> Session {
+fn session_with(session: Session, field: u64, n: u64) -> Session {
     let mut next = session;
     match field {
-        Field::State => {
+        names::STATE => {
             next.state = small(n);
             next
         }
-        Field::Refusal => {
+        names::REFUSAL => {
             next.refusal = small(n);
             next
         }
-        Field::Held => {
+        names::HELD => {
             next.held = n as usize;
             next
         }
@@ -246,13 +135,13 @@ fn session_with(session: Session, field: Field, n: u64) -> Session {
 }
 
 // Each part of the session, of which one has the field.
-fn with(session: Session, field: Field, n: u64, given: &Given) -> Session {
+fn with(session: Session, field: u64, n: u64, bytes: &[u8]) -> Session {
     let settings = session.settings;
     let incoming = session.incoming;
     let reply = session.reply;
     let set = settings_with(settings, field, n);
-    let come = incoming_with(incoming, field, n, given);
-    let waits = reply_with(reply, field, n, given);
+    let come = incoming_with(incoming, field, n, bytes);
+    let waits = reply_with(reply, field, n, bytes);
     let mut next = session_with(session, field, n);
     next.settings = set;
     next.incoming = come;
@@ -260,14 +149,13 @@ fn with(session: Session, field: Field, n: u64, given: &Given) -> Session {
     next
 }
 
-pub(crate) fn set(state: State, line: &[u8], given: &mut Given) -> State {
-    let field = setting_named(crate::words::second(line));
-    let Value::Is(n) = value(field, crate::words::third(line), given) else {
-        return crate::state::bad(state);
-    };
+// A session that was altered by hand can have a byte written anywhere.
+pub(crate) fn set(state: State, bytes: &[u8]) -> State {
+    let args = state.args;
     let session = state.session;
-    let changed = with(session, field, n, given);
-    let mut next = crate::state::by_hand(state);
+    let changed = with(session, args.first, args.second, bytes);
+    let mut next = state;
     next.session = changed;
+    next.reach = 140000;
     next
 }

@@ -1,61 +1,92 @@
-// The answers to calls.
+// The answers as text.
+use crate::state::Text;
 use session::Answer;
 use session::Sent;
 
-pub(crate) fn refused(number: u8, out: &mut [u8], at: usize) -> usize {
-    let named = crate::text::word(out, at, b"refused");
-    crate::text::number(out, named, number as u64)
+// The words of answers, by their places in `say`. The first four have no number.
+pub(crate) const NOTHING: usize = 0;
+
+pub(crate) const OK: usize = 1;
+
+pub(crate) const MORE: usize = 2;
+
+pub(crate) const CLOSED: usize = 3;
+
+pub(crate) const REFUSED: usize = 4;
+
+pub(crate) const TEXT: usize = 5;
+
+pub(crate) const BINARY: usize = 6;
+
+pub(crate) const PING: usize = 7;
+
+pub(crate) const PONG: usize = 8;
+
+pub(crate) const CLOSE: usize = 9;
+
+pub(crate) const HELD: usize = 10;
+
+pub(crate) const WAITS: usize = 11;
+
+pub(crate) const STATE: usize = 12;
+
+pub(crate) const MESSAGE: usize = 13;
+
+pub(crate) const CONTROL: usize = 14;
+
+pub(crate) const OUTPUT: usize = 15;
+
+// A word and the number behind it.
+pub(crate) struct Said {
+    pub(crate) word: usize,
+    pub(crate) number: u64,
 }
 
-// A read's answer, with the part of the store that an event shows.
-fn read(answer: Answer, part: &[u8], out: &mut [u8], at: usize) -> usize {
+pub(crate) fn of(word: usize, number: u64) -> Said {
+    Said { word, number }
+}
+
+// What a read answers.
+pub(crate) fn answer(answer: Answer) -> Said {
     match answer {
-        Answer::More => crate::text::word(out, at, b"more"),
-        Answer::Text(n) => crate::text::counted(out, at, b"text", n as u64, part),
-        Answer::Binary(n) => crate::text::counted(out, at, b"binary", n as u64, part),
-        Answer::Ping(n) => crate::text::counted(out, at, b"ping", n as u64, part),
-        Answer::Pong(n) => crate::text::counted(out, at, b"pong", n as u64, part),
-        Answer::Close(n) => crate::text::counted(out, at, b"close", n as u64, part),
-        Answer::Closed => crate::text::word(out, at, b"closed"),
-        Answer::Refused(number) => refused(number, out, at),
+        Answer::More => of(MORE, 0),
+        Answer::Text(n) => of(TEXT, n as u64),
+        Answer::Binary(n) => of(BINARY, n as u64),
+        Answer::Ping(n) => of(PING, n as u64),
+        Answer::Pong(n) => of(PONG, n as u64),
+        Answer::Close(n) => of(CLOSE, n as u64),
+        Answer::Closed => of(CLOSED, 0),
+        Answer::Refused(number) => of(REFUSED, number as u64),
     }
 }
 
-// The same with the number of bytes taken.
-pub(crate) fn taken(answer: Answer, part: &[u8], taken: usize, out: &mut [u8], at: usize) -> usize {
-    let told = read(answer, part, out, at);
-    let named = crate::text::word(out, told, b" taken");
-    crate::text::number(out, named, taken as u64)
-}
-
-// The answer to a sending call or to a take.
-pub(crate) fn sent(sent: Sent, out: &mut [u8], at: usize) -> usize {
+// What a sending call or a take answers.
+pub(crate) fn sent(sent: Sent) -> Said {
     match sent {
-        Sent::Done => crate::text::word(out, at, b"ok"),
-        Sent::Refused(number) => refused(number, out, at),
+        Sent::Done => of(OK, 0),
+        Sent::Refused(number) => of(REFUSED, number as u64),
     }
 }
 
-pub(crate) fn is_refused(sent: Sent) -> bool {
-    match sent {
-        Sent::Done => false,
-        Sent::Refused(_) => true,
+pub(crate) fn say(out: &mut Text, at: usize, said: Said) -> usize {
+    let word = script::words::word(
+        b"- ok more closed refused text binary ping pong close held waits state message control output",
+        said.word,
+    );
+    let named = script::answers::put(out, at, word);
+    if said.word < REFUSED {
+        return named;
     }
+    script::answers::number(out, named, said.number)
 }
 
-pub(crate) fn is_refusal(answer: Answer) -> bool {
-    match answer {
-        Answer::Refused(_) => true,
-        _ => false,
+// A line's end. The answers are written out once they fill an eighth of their room: what is left has room for the longest line, of a read
+// that shows 70,000 bytes and puts out 140,000.
+pub(crate) fn end(out: &mut Text, at: usize) -> usize {
+    let ended = script::answers::put(out, at, b"\n");
+    if ended < 65536 {
+        return ended;
     }
-}
-
-// Whether `all` reads on behind this answer.
-pub(crate) fn goes_on(answer: Answer) -> bool {
-    match answer {
-        Answer::More => false,
-        Answer::Closed => false,
-        Answer::Refused(_) => false,
-        _ => true,
-    }
+    io::write_all(1, input::front(out, ended));
+    0
 }

@@ -1,55 +1,60 @@
 // Opcodes and frame headers.
-use crate::text::Text;
+use crate::told;
+use crate::told::Answer;
+use crate::told::Store;
 use coding::opcode::Control;
 use coding::opcode::Data;
 use coding::opcode::OpCode;
 use frame::header::FrameHeader;
 use frame::header::Parsed;
 
-fn class(opcode: OpCode, out: &mut Text, at: usize) -> usize {
+// The word of a class, by its place.
+fn class(opcode: OpCode) -> u64 {
     match opcode {
         OpCode::Data(data) => match data {
-            Data::Continue => crate::text::word(out, at, b"continue"),
-            Data::Text => crate::text::word(out, at, b"text"),
-            Data::Binary => crate::text::word(out, at, b"binary"),
+            Data::Continue => 5,
+            Data::Text => 6,
+            Data::Binary => 7,
         },
         OpCode::Control(control) => match control {
-            Control::Close => crate::text::word(out, at, b"close"),
-            Control::Ping => crate::text::word(out, at, b"ping"),
-            Control::Pong => crate::text::word(out, at, b"pong"),
+            Control::Close => 8,
+            Control::Ping => 9,
+            Control::Pong => 10,
         },
-        OpCode::Reserved(_) => crate::text::word(out, at, b"reserved"),
+        OpCode::Reserved(_) => 11,
     }
 }
 
-pub(crate) fn opcode(args: &[u8], out: &mut Text, at: usize) -> usize {
-    let opcode = OpCode::from_u8(crate::args::byte(args, 0));
-    let named = crate::text::name(out, at, b"opcode");
-    let told = crate::text::hex(out, named, args);
-    let classed = class(opcode, out, told);
-    crate::text::number(out, classed, crate::args::wide(opcode.into_u8()))
+pub(crate) fn opcode(args: &[u8]) -> Answer {
+    let opcode = OpCode::from_u8(script::words::byte(args, 0));
+    told::of(told::WN, class(opcode), opcode.into_u8() as u64, 0, 0)
 }
 
-fn whole(header: FrameHeader, mask: [u8; 4], out: &mut Text, at: usize) -> usize {
-    let fin = crate::text::flag(out, at, header.fin);
-    let rsv1 = crate::text::flag(out, fin, header.rsv1);
-    let rsv2 = crate::text::flag(out, rsv1, header.rsv2);
-    let rsv3 = crate::text::flag(out, rsv2, header.rsv3);
+// A header that is whole, with its mask in the store.
+fn whole(header: FrameHeader) -> Answer {
     let opcode = header.opcode;
-    let classed = class(opcode, out, rsv3);
-    let masked = crate::text::flag(out, classed, header.masked);
-    let long = crate::text::number(out, masked, header.length);
-    crate::text::hex(out, long, &mask)
+    Answer {
+        shape: told::NNNNWNNX,
+        numbers: [
+            told::flag(header.fin),
+            told::flag(header.rsv1),
+            told::flag(header.rsv2),
+            told::flag(header.rsv3),
+            class(opcode),
+            told::flag(header.masked),
+            header.length,
+            4,
+        ],
+    }
 }
 
-pub(crate) fn read(args: &[u8], out: &mut Text, at: usize) -> usize {
-    let named = crate::text::name(out, at, b"header");
-    let told = crate::text::hex(out, named, args);
+pub(crate) fn read(args: &[u8], store: &mut Store) -> Answer {
     let parsed = frame::header::parse(args);
     let mask = frame::header::mask_of(args);
+    stores::copy(&mask, store, 0);
     match parsed {
-        Parsed::Lacking => crate::text::word(out, told, b"lacking"),
-        Parsed::Whole(header) => whole(header, mask, out, told),
+        Parsed::Lacking => told::of(told::W, told::LACKING, 0, 0, 0),
+        Parsed::Whole(header) => whole(header),
     }
 }
 
@@ -68,25 +73,24 @@ fn header_of(flags: u8, opcode: u8, length: u64) -> FrameHeader {
 }
 
 // Lays the header over a store and tells where it ends. The test on its size stands in for a proof that none has more than 27 bytes.
-fn formatted(header: FrameHeader, mask: [u8; 4], out: &mut Text, at: usize) -> usize {
+fn formatted(header: FrameHeader, mask: [u8; 4], store: &mut Store) -> Answer {
     let size = frame::header::header_size(header.masked, header.length);
     if 27 < size {
-        return crate::text::word(out, at, b"refused");
+        return told::refusal();
     }
-    let mut store = [0xeeu8; 32];
-    let behind = frame::header::format(header, mask, &mut store, 5);
-    let sized = crate::text::number(out, at, size as u64);
-    let placed = crate::text::number(out, sized, behind as u64);
-    crate::text::hex(out, placed, &store)
+    let behind = frame::header::format(header, mask, store, 5);
+    told::of(told::NNX, size as u64, behind as u64, 32, 0)
 }
 
-pub(crate) fn write(args: &[u8], out: &mut Text, at: usize) -> usize {
+pub(crate) fn write(args: &[u8], store: &mut Store) -> Answer {
     let header = header_of(
-        crate::args::byte(args, 0),
-        crate::args::byte(args, 1),
-        crate::args::big(args, 6),
+        script::words::byte(args, 0),
+        script::words::byte(args, 1),
+        crate::args::big(script::words::behind(args, 6)),
     );
-    let named = crate::text::name(out, at, b"write");
-    let told = crate::text::hex(out, named, args);
-    formatted(header, crate::args::mask(args, 2), out, told)
+    formatted(
+        header,
+        crate::args::mask(script::words::behind(args, 2)),
+        store,
+    )
 }

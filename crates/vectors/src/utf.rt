@@ -1,19 +1,19 @@
 // The UTF-8 check.
-use crate::text::Text;
+use crate::told;
+use crate::told::Answer;
 
-pub(crate) fn scan(args: &[u8], out: &mut Text, at: usize) -> usize {
-    let scanned = utf8::scan(crate::args::byte(args, 0), crate::args::behind(args, 1));
-    let named = crate::text::name(out, at, b"utf8");
-    let told = crate::text::hex(out, named, args);
-    let placed = crate::text::number(out, told, scanned.at as u64);
-    let reached = crate::text::number(out, placed, crate::args::wide(scanned.progress));
-    let whole = crate::text::flag(out, reached, utf8::is_whole(scanned.progress));
-    crate::text::flag(out, whole, utf8::is_beginning(scanned.progress))
+pub(crate) fn scan(args: &[u8]) -> Answer {
+    let scanned = utf8::scan(script::words::byte(args, 0), script::words::behind(args, 1));
+    told::of(
+        told::NNNN,
+        scanned.at as u64,
+        scanned.progress as u64,
+        told::flag(utf8::is_whole(scanned.progress)),
+        told::flag(utf8::is_beginning(scanned.progress)),
+    )
 }
 
-pub(crate) fn step(args: &[u8], out: &mut Text, at: usize) -> usize {
-    let progress = utf8::step(crate::args::byte(args, 0), crate::args::byte(args, 1));
-    let named = crate::text::name(out, at, b"step");
-    let told = crate::text::hex(out, named, args);
-    crate::text::number(out, told, crate::args::wide(progress))
+pub(crate) fn step(args: &[u8]) -> Answer {
+    let progress = utf8::step(script::words::byte(args, 0), script::words::byte(args, 1));
+    told::of(told::N, progress as u64, 0, 0, 0)
 }

@@ -5,10 +5,10 @@ use Rattle.vectors.proofs.codes.runs.Statement.{statement}
 use Rattle.vectors.proofs.codes.runs.Tie as tie
 
 abbrev Inv-loop : tie.InvT-loop
-Inv-loop out₀ at reached₀ from₀ now₀ code₀ out reached from now code = Unit {0}
+Inv-loop out₀ at reached₀ from₀ now₀ code₀ t9 out reached from now code = Unit {0}
 
 abbrev μ-loop : tie.MeasureT-loop
-μ-loop out₀ at reached₀ from₀ now₀ code₀ out reached from now code = 65535 - code
+μ-loop out₀ at reached₀ from₀ now₀ code₀ t9 out reached from now code = 65535 - code
 
 sort-of-requires : tie.Need-sort-of-requires Inv-loop μ-loop
 sort-of-requires c κs = search needs
@@ -25,8 +25,11 @@ sort-of-requires-2 c κs = search needs
 run-requires : tie.Need-run-requires Inv-loop μ-loop
 run-requires c κs = search needs
 
-end-requires : tie.Need-end-requires Inv-loop μ-loop
-end-requires c κs = search needs
+slice-aggregate-put : tie.Need-slice-aggregate-put Inv-loop μ-loop
+slice-aggregate-put c = search needs
+
+put-requires : tie.Need-put-requires Inv-loop μ-loop
+put-requires c κs = search needs
 
 add-from : tie.Need-add-from Inv-loop μ-loop
 add-from c = search needs
@@ -57,7 +60,8 @@ runs-spec =
     add-sort-of
     sort-of-requires-2
     run-requires
-    end-requires
+    slice-aggregate-put
+    put-requires
     add-from
     add-code
     loop-less
