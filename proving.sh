@@ -25,8 +25,8 @@ crates_below() {
         }' "$root/crates.txt"
 }
 
-# How it stands with these crates, in one line. `rt` leaves a word on each in target/log/NAME.res: failed until it is proved, then proved, or
-# built for a program.
+# How it stands with these crates, in one line, or nothing while none is being proved. `rt` leaves a word on each in target/log/NAME.res:
+# failed until it is proved, then proved, or built for a program. On the last of a static library it leaves none.
 how_it_stands() {
     proving= proved=0
     for crate in "$@"; do
@@ -35,7 +35,8 @@ how_it_stands() {
         failed) proving="$proving${proving:+ and }$crate" ;;
         esac
     done
-    printf 'proving %s: %s of %s crates are proved' "${proving:-$crate}" "$proved" "$#"
+    [ "$proved" != $(($# - 1)) ] || proving=${proving:-$crate}
+    [ -z "$proving" ] || printf 'proving %s: %s of %s crates are proved' "$proving" "$proved" "$#"
 }
 
 # Says it on standard error whenever it has changed, as long as this shell is there: in one line that is written over on a terminal, in
@@ -44,7 +45,7 @@ tell_proofs() {
     said=
     while kill -0 $$ 2>/dev/null; do
         stands=$(how_it_stands "$@")
-        if [ "$stands" != "$said" ]; then
+        if [ -n "$stands" ] && [ "$stands" != "$said" ]; then
             if [ -t 2 ]; then printf '\r\033[K%s' "$stands" >&2; else printf '%s\n' "$stands" >&2; fi
             said=$stands
         fi
