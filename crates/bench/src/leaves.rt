@@ -10,6 +10,23 @@ pub extern "C" fn bench_mask(piece: &[u8], store: &mut [u8], mask: u32) -> bool 
     true
 }
 
+// The same by single bytes, as the bytes go that are left behind the blocks. Nothing but the measure uses it.
+#[no_mangle]
+pub extern "C" fn bench_mask_bytes(piece: &[u8], store: &mut [u8], mask: u32) -> bool {
+    if store.len() < piece.len() {
+        return false;
+    }
+    let key = crate::sends::mask_bytes(mask);
+    let mut phase = 0;
+    let mut i = 0;
+    while i < piece.len() {
+        store[i] = piece[i] ^ key[phase];
+        phase = (phase + 1) % 4;
+        i += 1;
+    }
+    true
+}
+
 // Whether a piece is a whole text.
 #[no_mangle]
 pub extern "C" fn bench_utf8(piece: &[u8]) -> bool {

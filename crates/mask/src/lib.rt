@@ -5,9 +5,21 @@ ghost use lib.ListN.{length};
 ghost use Rattle.base.specs.Stores.{laid};
 ghost use Rattle.mask.specs.Mask.{masked};
 
+mod blocks;
+
 // Lays a piece of a payload over the store from place `at` on, masked or unmasked, which is the same. The piece's first byte is byte
-// `position` of the payload. The phase is carried on by adding, so that no position is divided for each byte.
+// `position` of the payload. Blocks of eight bytes first, and then the few bytes that are left: eight is twice four, so behind any number of
+// blocks the phase is that of `position` again.
 pub fn apply_mask(piece: &[u8], store: &mut [u8], at: usize, mask: [u8; 4], position: usize)
+    requires { ⌜ at + length (now piece) ≤ length (now store) ⌝ }
+    ensures { λ _. ⌜ now (store .exit) ≡ laid (now (store .entry)) at (masked mask position (now (piece .entry))) ⌝ }
+{
+    let done = blocks::lay_blocks(piece, store, at, mask, position);
+    lay_bytes(&piece[done..], store, at + done, mask, position);
+}
+
+// Byte by byte. The phase is carried on by adding, so that no position is divided for each byte.
+fn lay_bytes(piece: &[u8], store: &mut [u8], at: usize, mask: [u8; 4], position: usize)
     requires { ⌜ at + length (now piece) ≤ length (now store) ⌝ }
     ensures { λ _. ⌜ now (store .exit) ≡ laid (now (store .entry)) at (masked mask position (now (piece .entry))) ⌝ }
 {

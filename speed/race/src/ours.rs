@@ -24,6 +24,7 @@ mod raw {
 
     extern "C" {
         pub fn bench_mask(piece: *const u8, n: usize, store: *mut u8, size: usize, mask: u32) -> bool;
+        pub fn bench_mask_bytes(piece: *const u8, n: usize, store: *mut u8, size: usize, mask: u32) -> bool;
         pub fn bench_utf8(piece: *const u8, n: usize) -> bool;
         pub fn bench_take(payload: *const u8, n: usize, size: usize, output: *mut u8, output_size: usize) -> u64;
         pub fn bench_list(bytes: *const u8, n: usize, out: *mut u8, size: usize) -> u64;
@@ -47,6 +48,11 @@ pub struct Tally {
 
 pub fn mask(piece: &[u8], store: &mut [u8], mask: u32) -> bool {
     unsafe { raw::bench_mask(piece.as_ptr(), piece.len(), store.as_mut_ptr(), store.len(), mask) }
+}
+
+/// The same by single bytes.
+pub fn mask_bytes(piece: &[u8], store: &mut [u8], mask: u32) -> bool {
+    unsafe { raw::bench_mask_bytes(piece.as_ptr(), piece.len(), store.as_mut_ptr(), store.len(), mask) }
 }
 
 pub fn utf8(piece: &[u8]) -> bool {

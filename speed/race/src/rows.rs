@@ -110,27 +110,40 @@ fn leaves(race: &mut Race, quick: bool) {
     let size = if quick || race.is_counted() { MIB } else { 16 * MIB };
     let mut numbers = Numbers::new();
     let bytes = streams::payload(Content::Binary, size, &mut numbers);
-    let key = [0x37, 0xfa, 0x21, 0x3d];
-    let (mut one, mut two) = (vec![1u8; size], vec![1u8; size]);
-    let copy_and_mask = |store: &mut [u8]| {
-        store.copy_from_slice(black_box(&bytes));
-        mask::apply_mask(black_box(store), black_box(key));
-    };
-    let number = u32::from_be_bytes(key);
-    copy_and_mask(&mut one);
-    assert!(ours::mask(&bytes, &mut two, number) && one == two);
-    let row = |name| Row { table: "leaf", name, size, piece: size, units: 1, bytes: size as u64 };
-    race.run(
-        &row("unmask"),
-        &mut [("crate", &mut || copy_and_mask(&mut one)), ("ours", &mut || assert!(ours::mask(black_box(&bytes), &mut two, number)))],
-    );
+    unmasks(race, &bytes, 1);
+    unmasks(race, &bytes[..65536], 16);
     for (name, content) in [("UTF-8, ASCII", Content::Ascii), ("UTF-8, mixed", Content::Mixed)] {
         let text = streams::payload(content, size, &mut numbers);
         race.run(
-            &row(name),
+            &Row { table: "leaf", name, size, piece: size, units: 1, bytes: size as u64 },
             &mut [
                 ("crate", &mut || assert!(std::str::from_utf8(black_box(&text)).is_ok())),
                 ("ours", &mut || assert!(ours::utf8(black_box(&text)))),
+            ],
+        );
+    }
+}
+
+/// A piece unmasked so many times in a round, by our masking and by single bytes; and copied, which needs the memory no less.
+fn unmasks(race: &mut Race, piece: &[u8], times: u64) {
+    let key = [0x37, 0xfa, 0x21, 0x3d];
+    let (size, number) = (piece.len(), u32::from_be_bytes(key));
+    let copy_and_mask = |store: &mut [u8]| {
+        store.copy_from_slice(black_box(piece));
+        mask::apply_mask(black_box(store), black_box(key));
+    };
+    let (mut one, mut copied) = (vec![1u8; size], vec![1u8; size]);
+    copy_and_mask(&mut one);
+    let ways: [(&str, fn(&[u8], &mut [u8], u32) -> bool); 2] = [("unmask", ours::mask), ("unmask, byte by byte", ours::mask_bytes)];
+    for (name, way) in ways {
+        let mut two = vec![1u8; size];
+        assert!(way(piece, &mut two, number) && one == two);
+        race.run(
+            &Row { table: "leaf", name, size, piece: size, units: times, bytes: times * size as u64 },
+            &mut [
+                ("crate", &mut || (0..times).for_each(|_| copy_and_mask(&mut one))),
+                ("ours", &mut || (0..times).for_each(|_| assert!(way(black_box(piece), black_box(&mut two), number)))),
+                ("copy", &mut || (0..times).for_each(|_| black_box(&mut copied).copy_from_slice(black_box(piece)))),
             ],
         );
     }
