@@ -26,10 +26,3 @@ lay_out_race() {
         cmp -s "$here/race/$file" "$1/$file" || cp "$here/race/$file" "$1/$file" || return 1
     done
 }
-
-# The static libraries that rt made, as the measuring program's build script wants them.
-shipped() {
-    for name in $libraries; do
-        printf '%s:' "$root/target/staticlib/lib$name.a"
-    done
-}

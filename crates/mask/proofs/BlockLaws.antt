@@ -16,6 +16,8 @@ use Rattle.mask.specs.Blocks.{keyAt, xored, inBlocks}
 use Rattle.mask.specs.Mask.{masked}
 use Rattle.mask.proofs.Laws.{length-masked, masked-at, masked-append}
 
+-- ---- a block is read
+
 -- a byte more of a run that is copied into an array
 pub built-more : (s b : List ℕ) (from i : ℕ) → i < length b → from + i < length s → take i b ≡ part from i s
     → take (i + 1) (set b i (getD s (from + i) 0)) ≡ part from (i + 1) s
@@ -26,6 +28,8 @@ built-more s b from i h k p =
 pub built-all : (s b : List ℕ) (from i n : ℕ) → length b ≡ n → i ≡ n → take i b ≡ part from i s → b ≡ part from n s
 built-all s b from i n h k p = sym (take-all n b (omega arith)) ∙ rw k at p
 
+-- ---- the phase
+
 -- only the phase of a position counts
 masked-phase : (mask : List ℕ) (p q : ℕ) (s : List ℕ) → p % 4 ≡ q % 4 → masked mask p s ≡ masked mask q s
 unfolding masked
@@ -33,15 +37,17 @@ masked-phase mask p q [] e = refl
 masked-phase mask p q (b ∷ s) e = ap₂ _∷_ (rw e) (masked-phase mask (suc p) (suc q) s (omega arith))
 
 -- what is laid behind the first i bytes of a piece, masked in the phase that it has there
-laid-behind : (d k s t : List ℕ) (at p q i : ℕ) → i ≤ length s → q % 4 ≡ (p + i) % 4
+masked-behind : (d k s t : List ℕ) (at p q i : ℕ) → i ≤ length s → q % 4 ≡ (p + i) % 4
     → laid (laid d at (masked k p (take i s))) (at + i) (masked k q t) ≡ laid d at (masked k p (take i s ++ t))
-laid-behind d k s t at p q i h e =
+masked-behind d k s t at p q i h e =
     let n : length (take i s) ≡ i = length-take-le i s h in
     let front : length (masked k p (take i s)) ≡ i = length-masked k p (take i s) ∙ n in
     let both : masked k p (take i s ++ t) ≡ masked k p (take i s) ++ masked k (p + i) t = rw n at (masked-append k p (take i s) t) in
     rw (masked-phase k q (p + i) t e, both) (sym (rw front at (laid-append d at (masked k p (take i s)) (masked k (p + i) t))))
 
 -- ---- the key
+
+-- byte m of the key is the mask's byte of position p + m
 key-at : (mask : List ℕ) (p m : ℕ) → m < 4 → getD (keyAt mask p) m 0 ≡ getD mask ((p + m) % 4) 0
 key-at mask p zero h = let e : (p + 0) % 4 ≡ p % 4 = omega arith in rw e
 key-at mask p (suc zero) h = let e : (p + 1) % 4 ≡ (p % 4 + 1) % 4 = omega arith in rw e
@@ -85,7 +91,7 @@ pub laid-block : (d mask s : List ℕ) (at p i : ℕ) {k x y b c : List ℕ} →
 unfolding part
 laid-block d mask s at p i {k} {x} {y} {b} {c} e h f q u v r =
     let block : xored (part i 8 s) k ≡ masked k 0 (part i 8 s) = rw e (xored-block mask (part i 8 s) p (length-part i 8 s h)) in
-    r ∙ rw (v, u, block, q) (laid-behind d k s (part i 8 s) at 0 0 i (omega arith) (omega arith))
+    r ∙ rw (v, u, block, q) (masked-behind d k s (part i 8 s) at 0 0 i (omega arith) (omega arith))
     ∙ ap (λ (l : List ℕ). laid d at (masked k 0 l)) (sym (take-add i 8 s))
 
 -- all blocks, by the mask
@@ -101,4 +107,4 @@ laid-rest d mask s at p i {x} {y} e q r =
     let rest : List ℕ = take (length s - i) (drop i s) in
     let all : i + (length s - i) ≡ length s = omega arith in
     let whole : take i s ++ rest ≡ s = sym (take-add i (length s - i) s) ∙ rw all (take-all (length s) s (omega arith)) in
-    r ∙ rw q (laid-behind d mask s rest at p p i (omega arith) (omega arith)) ∙ ap (λ (l : List ℕ). laid d at (masked mask p l)) whole
+    r ∙ rw q (masked-behind d mask s rest at p p i (omega arith) (omega arith)) ∙ ap (λ (l : List ℕ). laid d at (masked mask p l)) whole

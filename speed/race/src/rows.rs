@@ -124,26 +124,30 @@ fn leaves(race: &mut Race, quick: bool) {
     }
 }
 
-/// A piece unmasked so many times in a round, by our masking and by single bytes; and copied, which needs the memory no less.
+/// A piece unmasked so many times in a round, by our masking and by single bytes; and copied, which needs the memory no less. All lay it
+/// over the same store.
 fn unmasks(race: &mut Race, piece: &[u8], times: u64) {
     let key = [0x37, 0xfa, 0x21, 0x3d];
     let (size, number) = (piece.len(), u32::from_be_bytes(key));
+    let copy = |store: &mut [u8]| store.copy_from_slice(black_box(piece));
     let copy_and_mask = |store: &mut [u8]| {
-        store.copy_from_slice(black_box(piece));
+        copy(store);
         mask::apply_mask(black_box(store), black_box(key));
     };
-    let (mut one, mut copied) = (vec![1u8; size], vec![1u8; size]);
-    copy_and_mask(&mut one);
     let ways: [(&str, fn(&[u8], &mut [u8], u32) -> bool); 2] = [("unmask", ours::mask), ("unmask, byte by byte", ours::mask_bytes)];
     for (name, way) in ways {
-        let mut two = vec![1u8; size];
+        let (mut one, mut two) = (vec![1u8; size], vec![1u8; size]);
+        copy_and_mask(&mut one);
         assert!(way(piece, &mut two, number) && one == two);
+        let store = std::cell::RefCell::new(one);
+        drop(two);
+        let repeat = |run: &dyn Fn(&mut [u8])| (0..times).for_each(|_| run(black_box(&mut store.borrow_mut()[..])));
         race.run(
             &Row { table: "leaf", name, size, piece: size, units: times, bytes: times * size as u64 },
             &mut [
-                ("crate", &mut || (0..times).for_each(|_| copy_and_mask(&mut one))),
-                ("ours", &mut || (0..times).for_each(|_| assert!(way(black_box(piece), black_box(&mut two), number)))),
-                ("copy", &mut || (0..times).for_each(|_| black_box(&mut copied).copy_from_slice(black_box(piece)))),
+                ("crate", &mut || repeat(&copy_and_mask)),
+                ("ours", &mut || repeat(&|store| assert!(way(black_box(piece), store, number)))),
+                ("copy", &mut || repeat(&copy)),
             ],
         );
     }
