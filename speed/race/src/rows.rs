@@ -146,8 +146,8 @@ fn unmasks(race: &mut Race, piece: &[u8], times: u64) {
             &Row { table: "leaf", name, size, piece: size, units: times, bytes: times * size as u64 },
             &mut [
                 ("crate", &mut || repeat(&copy_and_mask)),
-                ("ours", &mut || repeat(&|store| assert!(way(black_box(piece), store, number)))),
                 ("copy", &mut || repeat(&copy)),
+                ("ours", &mut || repeat(&|store| assert!(way(black_box(piece), store, number)))),
             ],
         );
     }
@@ -177,8 +177,8 @@ fn sends(race: &mut Race, quick: bool) {
                 &row,
                 &mut [
                     ("crate", &mut || done(theirs::send(client, text, black_box(&payloads), size))),
-                    ("ours", &mut || done(ours::send(Alone, client, text, black_box(&payloads), size, &mut output))),
                     ("shared", &mut || done(ours::send(Shared, client, text, black_box(&payloads), size, &mut other))),
+                    ("ours", &mut || done(ours::send(Alone, client, text, black_box(&payloads), size, &mut output))),
                 ],
             );
         }
@@ -252,12 +252,12 @@ fn by_size(race: &mut Race) {
             race.run(
                 &row,
                 &mut [
+                    ("crate", &mut || done(theirs::read(client, black_box(&session.stream), 65536, 65536))),
                     ("copy", &mut || {
                         for payload in black_box(&session.stream).chunks(size) {
                             black_box(&mut copied)[..payload.len()].copy_from_slice(payload);
                         }
                     }),
-                    ("crate", &mut || done(theirs::read(client, black_box(&session.stream), 65536, 65536))),
                     ("ours", &mut || done(ours::read(Alone, client, black_box(&session.stream), 65536, &mut store))),
                 ],
             );
@@ -286,8 +286,8 @@ fn by_pieces(race: &mut Race) {
             &row,
             &mut [
                 ("crate", &mut || done(theirs::read(true, black_box(stream), piece, piece))),
-                ("ours", &mut || done(ours::read(Alone, true, black_box(stream), piece, &mut store))),
                 ("shared", &mut || done(ours::read(Shared, true, black_box(stream), piece, &mut other))),
+                ("ours", &mut || done(ours::read(Alone, true, black_box(stream), piece, &mut store))),
             ],
         );
     }
