@@ -56,7 +56,7 @@ key-at mask p (suc (suc (suc zero))) h = let e : (p + 3) % 4 ≡ (p % 4 + 3) % 4
 key-at mask p (suc (suc (suc (suc m)))) h = absurd (omega arith)
 
 -- masking with the turned key is masking from the position on
-masked-key : (mask : List ℕ) (p m : ℕ) (s : List ℕ) → masked (keyAt mask p) m s ≡ masked mask (p + m) s
+pub masked-key : (mask : List ℕ) (p m : ℕ) (s : List ℕ) → masked (keyAt mask p) m s ≡ masked mask (p + m) s
 unfolding masked
 masked-key mask p m [] = refl
 masked-key mask p m (b ∷ s) =
@@ -76,7 +76,7 @@ key-twice mask s p (suc (suc (suc (suc (suc (suc (suc zero))))))) h = refl
 key-twice mask s p (suc (suc (suc (suc (suc (suc (suc (suc j)))))))) h = absurd (omega arith)
 
 -- a block XORed with the key is that block masked
-xored-block : (mask s : List ℕ) (p : ℕ) → length s ≡ 8 → xored s (keyAt mask p) ≡ masked (keyAt mask p) 0 s
+pub xored-block : (mask s : List ℕ) (p : ℕ) → length s ≡ 8 → xored s (keyAt mask p) ≡ masked (keyAt mask p) 0 s
 xored-block mask s p h =
     let k : List ℕ = keyAt mask p in
     let n : length (masked k 0 s) ≡ 8 = length-masked k 0 s ∙ h in
