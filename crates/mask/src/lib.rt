@@ -1,4 +1,6 @@
 // Masking (RFC 6455, 5.3), carried over from the Rust's protocol/frame/mask.rs.
+#![tactic(auto)]
+
 ghost use Rattle.std.specs.Prelude.{◌≡◌, ◌+◌, ◌≤◌, length};
 ghost use Rattle.base.specs.Stores.{laid};
 ghost use Rattle.mask.specs.Mask.{masked};

@@ -1,4 +1,6 @@
 // Runs of bytes in lent stores, carried over from what the Rust's protocol/frame/mod.rs does with its buffers.
+#![tactic(auto)]
+
 ghost use Rattle.std.specs.Prelude.{◌≡◌, ◌+◌, ◌-◌, ◌≤◌, length};
 ghost use Rattle.base.specs.Bytes.{part};
 ghost use Rattle.base.specs.Stores.{laid};

@@ -1,4 +1,6 @@
 // The UTF-8 check: a step on a progress that is carried from byte to byte, and so from piece to piece, and a scan of one piece.
+#![tactic(auto)]
+
 ghost use Rattle.std.specs.Prelude.{◌≡◌, [], ◌∷◌};
 ghost use Rattle.base.specs.Table.{◌to◌is◌, value_at};
 ghost use Rattle.utf8.specs.Progress.{lead_rows, stepped, scanned, is_whole, is_beginning};

@@ -1,0 +1,24 @@
+-- `frame::bits::join_first` meets its contract: bits that do not meet are added.
+use mathlib.Core.Path.{◌≡◌, ◌∙◌}
+use Prim.Native.Nat.{◌%◌, ◌<◌}
+use native.Mathlib.Nat.{mod-lt, zero-lt-suc}
+use lib.Bits.{and_mask}
+use Rattle.coding.specs.Opcodes.{opcode_number}
+use Rattle.frame.specs.Header.{first_byte}
+use Rattle.frame.proofs.Flags.{or_flags}
+use borrow.Author.Rules.{rules}
+use Rattle.frame.proofs.bits.join_first.Goals as goal
+
+pub returns : goal.returns
+unfolding first_byte
+returns c =
+    let h : opcode_number c.args.first.opcode % 16 < 16 = mod-lt (opcode_number c.args.first.opcode) (zero-lt-suc 15) in
+    rw (
+      c.flag-4.ensures,
+      c.flag-3.ensures,
+      c.flag-2.ensures,
+      c.flag.ensures,
+      c.into_u8-low.ensures,
+      and_mask (opcode_number c.args.first.opcode) 4,
+    )
+    (or_flags (opcode_number c.args.first.opcode % 16) h c.args.first.fin c.args.first.rsv1 c.args.first.rsv2 c.args.first.rsv3)

@@ -1,0 +1,14 @@
+-- `lines::number::digit` meets its contract.
+use mathlib.Core.Path.{refl}
+use borrow.Author.Rules.{rules}
+use borrow.Author.Tests.{lt-ltb, le-ltb}
+use Rattle.lines.specs.Text.{digit_of}
+use Rattle.lines.proofs.number.digit.Goals as goal
+
+pub returns-then-low-lt10 : goal.returns-then-low-lt10
+unfolding digit_of
+returns-then-low-lt10 c = rw (lt-ltb _ 10 c.if-low-lt10.true) refl
+
+pub returns : goal.returns
+unfolding digit_of
+returns c = rw (le-ltb _ 10 c.if-low-lt10.false) refl

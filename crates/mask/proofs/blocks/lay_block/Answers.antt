@@ -1,0 +1,41 @@
+-- `mask::blocks::lay_block` meets its contract. The loop's invariant: the first i bytes of the block are laid over the store.
+use mathlib.Core.Path.{◌≡◌, refl}
+use Prim.Native.Nat.{◌≤◌, ◌-◌}
+use native.Mathlib.Omega.{arith}
+use lib.ListN.{length, take, length-set}
+use borrow.Author.Rules.{rules}
+use Rattle.base.specs.Stores.{laid}
+use Rattle.base.proofs.Stores.{laid_none, laid_more, laid-all}
+use Rattle.mask.proofs.blocks.lay_block.Goals as goal
+
+pub loop-i-init : goal.loop-i-init
+loop-i-init c = (omega arith, laid_none _ _, refl, search rules)
+
+pub bounds-block-i : goal.bounds-block-i
+bounds-block-i c = omega arith
+
+pub overflow_add-store : goal.overflow_add-store
+overflow_add-store c = omega arith
+
+pub bounds-store-at : goal.bounds-store-at
+bounds-store-at c = omega arith
+
+pub overflow_add-i : goal.overflow_add-i
+overflow_add-i c = omega arith
+
+pub loop-i-smaller : goal.loop-i-smaller
+loop-i-smaller c = omega arith
+
+pub loop-i-preserved : goal.loop-i-preserved
+loop-i-preserved c = (
+  omega arith,
+  laid_more _ _ _ c.loop-i.i _ (omega arith) refl c.loop-i.invariant.1,
+  simp length-set c.loop-i.invariant.2,
+  c.loop-i.invariant.3,
+)
+
+pub shape_of-store : goal.shape_of-store
+shape_of-store c = omega arith
+
+pub returns : goal.returns
+returns c = laid-all _ _ _ c.loop-i.i (omega arith) c.loop-i.invariant.1

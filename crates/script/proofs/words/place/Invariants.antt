@@ -1,0 +1,16 @@
+-- `script::words::place` meets its contract. The loop's invariant: the names that are passed, and the word's place among the others.
+use mathlib.Core.Path.{◌≡◌, sym, ◌∙◌}
+use Prim.Native.Nat.{◌≤◌, ◌+◌}
+use native.Mathlib.Omega.{arith}
+use borrow.Author.Rules.{rules}
+use lib.ListN.{length}
+use lib.Seq.{length-take-le}
+use Rattle.script.specs.Words.{words_of, place_in}
+use Rattle.script.proofs.Splitting.{find_within, place_here, place_none, place_on}
+use Rattle.script.proofs.words.place.Given as goal
+
+abbrev pub invariant-loop-others : goal.invariant-loop-others
+invariant-loop-others l = (l.passed + length l.others ≤ length l.names) × (place_in (words_of l.names) l.word ≡ l.passed + place_in (words_of l.others) l.word)
+
+abbrev pub decreases-loop-others : goal.decreases-loop-others
+decreases-loop-others l = length l.others
