@@ -14,4 +14,4 @@ unfolding extra_bytes value_at
 returns-in-127 c = sym (ap extra_bytes c.in-127.is)
 
 pub returns-in_default : goal.returns-in_default
-returns-in_default c = sym (extra_other _ c.in_default.REST.0.1 c.in_default.REST.1)
+returns-in_default c = sym (extra_other _ (assumption) (assumption))

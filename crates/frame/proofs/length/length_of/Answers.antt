@@ -24,4 +24,4 @@ unfolding length_of value_at
 returns-in-127 c = c.big_at-in-127.ensures ∙ rw c.in-127.is
 
 pub returns-in_default : goal.returns-in_default
-returns-in_default c = c.wide.ensures.0 ∙ sym (length-other _ _ c.in_default.REST.0.1 c.in_default.REST.1)
+returns-in_default c = c.wide.ensures.0 ∙ sym (length-other _ _ (assumption) (assumption))

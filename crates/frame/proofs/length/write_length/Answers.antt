@@ -18,31 +18,29 @@ returns-then-n-le125 c =
 pub copy-requires : goal.copy-requires
 copy-requires c =
     let middle : length_bytes c.args.n ≡ take 2 (drop 6 c.big_bytes-bytes.result) =
-        bytes_middle c.args.n c.if-n-le125.false c.if-n-le65535.true
-    ∙ rw c.big_bytes-bytes.ensures (sym (low_two _))
-dule _ (c : tie.Else2) where in
-    rw (← middle) c.??
+    bytes_middle c.args.n c.if-n-le125.false c.if-n-le65535.true
+    ∙ rw c.big_bytes-bytes.ensures (sym (low_two _)) in
+    rw (← middle) c.requires
 
 pub returns-then-n-le65535 : goal.returns-then-n-le65535
 returns-then-n-le65535 c =
     let middle_two : length (length_bytes c.args.n) ≡ 2 =
-        rw (bytes_middle c.args.n c.if-n-le125.false c.if-n-le65535.true) (length-to_big 2 _) in
+    rw (bytes_middle c.args.n c.if-n-le125.false c.if-n-le65535.true) (length-to_big 2 _) in
     let middle : length_bytes c.args.n ≡ take 2 (drop 6 c.big_bytes-bytes.result) =
-        bytes_middle c.args.n c.if-n-le125.false c.if-n-le65535.true
-    ∙ rw c.big_bytes-bytes.ensures (sym (low_two _))
-dule _ (c : tie.Else2) where in
+    bytes_middle c.args.n c.if-n-le125.false c.if-n-le65535.true
+    ∙ rw c.big_bytes-bytes.ensures (sym (low_two _)) in
     rw middle (rw (← middle, middle_two) (search rules), c.copy.ensures)
 
 pub copy-requires-2 : goal.copy-requires-2
 copy-requires-2 c =
     let long : length_bytes c.args.n ≡ c.big_bytes-bytes.result =
-        bytes_long c.args.n c.if-n-le65535.false ∙ sym c.big_bytes-bytes.ensures in
+    bytes_long c.args.n c.if-n-le65535.false ∙ sym c.big_bytes-bytes.ensures in
     rw (← long) c.requires
 
 pub returns : goal.returns
 returns c =
     let long_eight : length (length_bytes c.args.n) ≡ 8 =
-        rw (bytes_long c.args.n c.if-n-le65535.false) (length-to_big 8 _) in
+    rw (bytes_long c.args.n c.if-n-le65535.false) (length-to_big 8 _) in
     let long : length_bytes c.args.n ≡ c.big_bytes-bytes.result =
-        bytes_long c.args.n c.if-n-le65535.false ∙ sym c.big_bytes-bytes.ensures in
+    bytes_long c.args.n c.if-n-le65535.false ∙ sym c.big_bytes-bytes.ensures in
     rw long (rw (← long, long_eight) (search rules), c.copy-2.ensures)
