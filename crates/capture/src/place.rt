@@ -3,11 +3,11 @@ ghost use Rattle.std.specs.Prelude.{◌≡◌};
 ghost use Rattle.capture.specs.Places.{onward, file_onward, stream_onward};
 
 // A place in the capture file: so many of its bytes stand before it.
-#[derive(Drop)]
+#[derive(Clone, Copy)]
 pub struct FilePlace(pub u64);
 
 // A place in the stream that the capture holds.
-#[derive(Drop)]
+#[derive(Clone, Copy)]
 pub struct StreamPlace(pub u64);
 
 // The place n bytes behind, or the last one that 64 bits can count.

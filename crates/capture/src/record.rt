@@ -3,7 +3,7 @@ ghost use Rattle.std.specs.Prelude.{◌≡◌, eqb};
 ghost use Rattle.base.specs.Tests.{both};
 ghost use Rattle.capture.specs.Records.{mark_of, short, by_mark, input_in, found_in};
 
-#[derive(Drop)]
+#[derive(Clone, Copy)]
 pub enum Mark {
     Server,
     Client,
@@ -14,7 +14,7 @@ pub enum Mark {
 
 // What the bytes of a file from a mark's place on begin with: a record that lacks bytes, which may still come; one that is cut short or
 // has no mark; a role; a record of so many bytes of the stream; the end of the stream.
-#[derive(Drop)]
+#[derive(Clone, Copy)]
 pub enum Found {
     Lacking,
     Bad,

@@ -13,7 +13,7 @@ use session::{Answer, Masks, Role, Session};
 
 // What is to be done next: the role record, a record, a call on what is left of a record, the taking of the output that a call left, the
 // line of its answer, or nothing more.
-#[derive(Drop)]
+#[derive(Clone, Copy)]
 pub enum Due {
     Role,
     Record,
@@ -24,7 +24,7 @@ pub enum Due {
 }
 
 // A replay between two steps.
-#[derive(Drop)]
+#[derive(Clone, Copy)]
 pub struct Replay {
     pub session: Session,
     pub due: Due,
@@ -38,7 +38,7 @@ pub struct Replay {
 
 // What a step came to: it wants more bytes of the file, or more room for a line; it has laid a line of so many bytes, or of none where
 // there is nothing to say; it has laid the last one.
-#[derive(Drop)]
+#[derive(Clone, Copy)]
 pub enum Came {
     Lacking,
     Full,
@@ -46,7 +46,7 @@ pub enum Came {
     Last(usize),
 }
 
-#[derive(Drop)]
+#[derive(Clone, Copy)]
 pub struct Stepped {
     pub came: Came,
     // bytes used of the window

@@ -3,7 +3,7 @@ ghost use Rattle.std.specs.Prelude.{◌≡◌};
 ghost use Rattle.coding.specs.CloseCodes.{class_of, allowed_class, allowed};
 
 // The class of a code. Those that stand for a range of codes keep the code.
-#[derive(Drop)]
+#[derive(Clone, Copy)]
 pub enum CloseCode {
     Normal,
     Away,

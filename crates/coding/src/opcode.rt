@@ -3,7 +3,7 @@ ghost use Rattle.std.specs.Prelude.{◌≡◌, ◌%◌};
 ghost use Rattle.coding.specs.Opcodes.{opcode_of, opcode_number};
 
 // What a data frame carries.
-#[derive(Drop)]
+#[derive(Clone, Copy)]
 pub enum Data {
     Continue,
     Text,
@@ -11,7 +11,7 @@ pub enum Data {
 }
 
 // What a control frame asks for.
-#[derive(Drop)]
+#[derive(Clone, Copy)]
 pub enum Control {
     Close,
     Ping,
@@ -19,7 +19,7 @@ pub enum Control {
 }
 
 // A reserved opcode keeps its number, so that it can be told and written again.
-#[derive(Drop)]
+#[derive(Clone, Copy)]
 pub enum OpCode {
     Data(Data),
     Control(Control),

@@ -5,7 +5,7 @@ ghost use Rattle.frame.specs.Header.{first_of, second_of, first_byte, second_byt
 
 use coding::opcode::OpCode;
 
-#[derive(Drop)]
+#[derive(Clone, Copy)]
 pub(crate) struct First {
     pub(crate) fin: bool,
     pub(crate) rsv1: bool,
@@ -14,7 +14,7 @@ pub(crate) struct First {
     pub(crate) opcode: OpCode,
 }
 
-#[derive(Drop)]
+#[derive(Clone, Copy)]
 pub(crate) struct Second {
     pub(crate) masked: bool,
     pub(crate) code: u8,

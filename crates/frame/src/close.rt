@@ -5,7 +5,7 @@ ghost use Rattle.base.specs.Stores.{laid};
 ghost use Rattle.frame.specs.Close.{close_of, close_bytes, violation};
 
 // A reason, where there is a code, is the payload from byte 2 on.
-#[derive(Drop)]
+#[derive(Clone, Copy)]
 pub enum ClosePayload {
     Empty,
     OneByte,

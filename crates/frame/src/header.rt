@@ -7,7 +7,7 @@ use crate::bits::{First, Second};
 use coding::opcode::OpCode;
 
 // What a header says, but for its mask: that stands beside it, since an enum holds no array.
-#[derive(Drop)]
+#[derive(Clone, Copy)]
 pub struct FrameHeader {
     pub fin: bool,
     pub rsv1: bool,
@@ -19,7 +19,7 @@ pub struct FrameHeader {
 }
 
 // What the bytes from a frame's first byte on are as a header.
-#[derive(Drop)]
+#[derive(Clone, Copy)]
 pub enum Parsed {
     Lacking,
     Whole(FrameHeader),

@@ -11,7 +11,7 @@ use frame::close::ClosePayload;
 use frame::header::FrameHeader;
 use session::{Answer, Incoming, Settings};
 
-#[derive(Drop)]
+#[derive(Clone, Copy)]
 pub(crate) struct Decided {
     pub(crate) answer: Answer,
     pub(crate) incoming: Incoming,

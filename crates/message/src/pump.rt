@@ -11,7 +11,7 @@ use frame::header::{FrameHeader, Parsed};
 use session::{Answer, Incoming, Settings};
 
 // What some bytes led to: the answer, how many bytes of the piece are taken by then, and what has come.
-#[derive(Drop)]
+#[derive(Clone, Copy)]
 pub struct Taken {
     pub answer: Answer,
     pub at: usize,
@@ -19,7 +19,7 @@ pub struct Taken {
 }
 
 // What a turn led to, and whether another follows.
-#[derive(Drop)]
+#[derive(Clone, Copy)]
 struct Went {
     answer: Answer,
     at: usize,
@@ -188,7 +188,7 @@ pub fn is_more(answer: Answer) -> bool
 
 // What a piece leaves that lies inside a frame, short of its end: the payload bytes counted, and the progress of the check. Where it does
 // not lie so, nothing is said and nothing was done.
-#[derive(Drop)]
+#[derive(Clone, Copy)]
 pub struct Within {
     pub holds: bool,
     pub counted: usize,

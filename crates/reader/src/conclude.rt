@@ -13,7 +13,7 @@ use frame::close::ClosePayload;
 use session::{Answer, Reply, Waiting};
 
 // What is answered, and the parts of a session that an event can change.
-#[derive(Drop)]
+#[derive(Clone, Copy)]
 pub(crate) struct Concluded {
     pub(crate) answer: Answer,
     pub(crate) state: u8,

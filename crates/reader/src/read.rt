@@ -15,14 +15,14 @@ use frame::header::Parsed;
 use session::{Answer, Incoming, Masks, Reply, Session, Settings, Turn, Waiting};
 
 // What the end flag leaves.
-#[derive(Drop)]
+#[derive(Clone, Copy)]
 struct Flagged {
     answer: Answer,
     state: u8,
 }
 
 // What a call gives once its reply has moved: the answer, the bytes taken, and the parts of the session that bytes can change.
-#[derive(Drop)]
+#[derive(Clone, Copy)]
 struct Gone {
     answer: Answer,
     taken: usize,

@@ -74,7 +74,7 @@ pub fn reply_fits(client: bool, count: usize, held: usize, size: usize) -> bool
 }
 
 // What a move leaves: the waiting reply, and the bytes held.
-#[derive(Drop)]
+#[derive(Clone, Copy)]
 pub struct Moved {
     pub reply: Reply,
     pub held: usize,

@@ -1,10 +1,12 @@
 // A session (document 01, "The session"), carried over from the Rust's protocol/mod.rs: its types, how one is made, and which are in
 // range. What each call does is defined in specs/; the calls themselves are in the crates above.
+#![tactic(auto)]
+
 pub mod new;
 pub mod range;
 
 // Which end a session is. In a session it is a number.
-#[derive(Drop)]
+#[derive(Clone, Copy)]
 pub enum Role {
     Server,
     Client,
@@ -26,7 +28,7 @@ pub const CLOSE_ACKNOWLEDGED: u8 = 3;
 pub const TERMINATED: u8 = 4;
 
 // The wide fields of a struct stand before the narrow ones: what lies between them would be copied with each session.
-#[derive(Drop)]
+#[derive(Clone, Copy)]
 pub struct Settings {
     // the frame limit and the message limit
     pub frame: usize,
@@ -37,7 +39,7 @@ pub struct Settings {
 }
 
 // What has come of a frame and of a message.
-#[derive(Drop)]
+#[derive(Clone, Copy)]
 pub struct Incoming {
     // how many bytes of the header are kept
     pub kept: usize,
@@ -54,7 +56,7 @@ pub struct Incoming {
     pub progress: u8,
 }
 
-#[derive(Drop)]
+#[derive(Clone, Copy)]
 pub enum Waiting {
     Nothing,
     Pong,
@@ -62,14 +64,14 @@ pub enum Waiting {
 }
 
 // The waiting reply, with its payload.
-#[derive(Drop)]
+#[derive(Clone, Copy)]
 pub struct Reply {
     pub waiting: Waiting,
     pub length: usize,
     pub payload: [u8; 125],
 }
 
-#[derive(Drop)]
+#[derive(Clone, Copy)]
 pub struct Session {
     pub settings: Settings,
     pub state: u8,
@@ -82,7 +84,7 @@ pub struct Session {
 }
 
 // An answer of the reader.
-#[derive(Drop)]
+#[derive(Clone, Copy)]
 pub enum Answer {
     More,
     Text(usize),
@@ -95,7 +97,7 @@ pub enum Answer {
 }
 
 // What a read call gives beside the stores.
-#[derive(Drop)]
+#[derive(Clone, Copy)]
 pub struct Turn {
     pub answer: Answer,
     pub taken: usize,
@@ -103,28 +105,28 @@ pub struct Turn {
 }
 
 // An answer to a sending call or to a take.
-#[derive(Drop)]
+#[derive(Clone, Copy)]
 pub enum Sent {
     Done,
     Refused(u8),
 }
 
 // What a sending call or a take gives beside the output store.
-#[derive(Drop)]
+#[derive(Clone, Copy)]
 pub struct Handed {
     pub sent: Sent,
     pub session: Session,
 }
 
 // What a close carries: nothing, or a code before the reason.
-#[derive(Drop)]
+#[derive(Clone, Copy)]
 pub enum Closing {
     Empty,
     Code(u16),
 }
 
 // The two masks of a call: its first frame takes the first.
-#[derive(Drop)]
+#[derive(Clone, Copy)]
 pub struct Masks {
     pub first: [u8; 4],
     pub second: [u8; 4],

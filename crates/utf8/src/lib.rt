@@ -58,7 +58,7 @@ pub fn step(progress: u8, byte: u8) -> u8
 }
 
 // Where a scan ended, which is the piece's length where it met no bad byte, and the progress there.
-#[derive(Drop)]
+#[derive(Clone, Copy)]
 pub struct Scanned {
     pub at: usize,
     pub progress: u8,
