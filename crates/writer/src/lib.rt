@@ -1,4 +1,6 @@
 // Sending (document 01, "Sending"): the calls that put frames into the output store and hand them over, carried over from the Rust's
 // protocol/mod.rs and protocol/frame/mod.rs.
+#![tactic(auto)]
+
 pub mod output;
 pub mod send;

@@ -1,0 +1,8 @@
+-- `writer::send::ping` meets its contract.
+use borrow.Author.Rules.{rules}
+use Rattle.session.specs.Calls.{ping_call}
+use Rattle.writer.proofs.send.ping.Goals as goal
+
+pub returns : goal.returns
+unfolding ping_call
+returns c = c.send.ensures

@@ -1,0 +1,9 @@
+-- `writer::send::text` meets its contract.
+use borrow.Author.Rules.{rules}
+use Rattle.session.specs.Calls.{text_call}
+use Rattle.writer.proofs.send.text.Goals as goal
+
+pub returns : goal.returns
+unfolding text_call
+returns c =
+    rw (← c.is_text-bad.ensures) c.send.ensures
