@@ -1,0 +1,25 @@
+-- `capture::step::at_role` meets its contract, by what is found.
+use borrow.Author.Rules.{rules}
+use Rattle.base.proofs.Stores.{laid_none}
+use Rattle.capture.proofs.step.at_role.Goals as goal
+
+pub returns-in-Lacking : goal.returns-in-Lacking
+returns-in-Lacking c = rw c.in-Lacking.is (c.lacking.ensures, laid_none _ _)
+
+pub returns-in-Server : goal.returns-in-Server
+returns-in-Server c = rw c.in-Server.is (c.in_role.ensures, laid_none _ _)
+
+pub returns-in-Client : goal.returns-in-Client
+returns-in-Client c = rw c.in-Client.is (c.in_role-in-Client.ensures, laid_none _ _)
+
+pub returns-in-Bad : goal.returns-in-Bad
+returns-in-Bad c =
+    rw c.in-Bad.is c.bad.ensures
+
+pub returns-in-Input : goal.returns-in-Input
+returns-in-Input c =
+    rw c.in-Input.is c.bad-in-Input.ensures
+
+pub returns-in-End : goal.returns-in-End
+returns-in-End c =
+    rw c.in-End.is c.bad-in-End.ensures

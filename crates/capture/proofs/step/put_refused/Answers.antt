@@ -1,0 +1,14 @@
+-- `capture::step::put_refused` meets its contract.
+use native.Mathlib.Omega.{arith}
+use borrow.Author.Rules.{rules}
+use Rattle.lines.proofs.Laws.{length-decimal}
+use Rattle.capture.proofs.Stepping.{refused_on}
+use Rattle.capture.proofs.step.put_refused.Goals as goal
+
+pub put_at_place-requires : goal.put_at_place-requires
+put_at_place-requires c =
+    omega (arith, length-decimal c.args.number)
+
+pub returns : goal.returns
+returns c =
+    refused_on _ _ _ _ c.put_word-named.ensures c.put_decimal-numbered.ensures c.put_at_place.ensures
