@@ -3,6 +3,8 @@
 // calls give is promised by their own crates, and the measuring program holds the counts that come out to the other side's.
 //
 // Compiled together, these loops share the calls. bench_read and bench_binary have one loop each, as a program with one such loop has.
+#![tactic(auto)]
+
 mod leaves;
 mod listings;
 mod places;

@@ -3,7 +3,7 @@ use capture::step::{Came, Replay};
 
 // Where a listing stands: the replay, the bytes of the capture that are used, the place behind the lines in the store, the bytes of all
 // lines, and whether there is another step.
-#[derive(Drop)]
+#[derive(Clone, Copy)]
 struct Went {
     replay: Replay,
     used: usize,

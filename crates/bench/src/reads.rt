@@ -2,7 +2,7 @@
 use session::{Answer, Masks, Role, Session, Turn};
 
 // The events of a session, and the bytes that they showed.
-#[derive(Drop)]
+#[derive(Clone, Copy)]
 struct Tally {
     events: u64,
     bytes: u64,
@@ -30,8 +30,8 @@ fn no_masks() -> Masks {
 
 fn with_event(tally: Tally, n: usize) -> Tally {
     Tally {
-        events: std::num::wrapping_add_u64(tally.events, 1),
-        bytes: std::num::wrapping_add_u64(tally.bytes, n as u64),
+        events: tally.events.wrapping_add(1),
+        bytes: tally.bytes.wrapping_add(n as u64),
     }
 }
 
