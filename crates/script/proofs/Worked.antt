@@ -1,10 +1,8 @@
 -- Some words and values computed from the definitions, beside their ASCII numbers.
 use mathlib.Core.Path.{◌≡◌, refl}
-use mathlib.Core.List.{List, [], ◌∷◌}
-use Prim.Native.Nat.{ℕ}
-use Rattle.script.specs.declared.values.Value.{Value}
+use mathlib.Core.List.{[], ◌∷◌}
 use Rattle.script.specs.declared.values.Value.TheVariants.{Is, Bad}
-use Rattle.script.specs.Words.{find_in, onto, words_of, same_bytes, place_in}
+use Rattle.script.specs.Words.{onto, words_of, same_bytes, place_in}
 use Rattle.script.specs.Values.{more_of, read_on, decimal_of, bits_of, all_digits, byte_of, bytes_of, is_hex, hex_of}
 
 -- `a bc`; no byte; a space before and behind

@@ -1,5 +1,5 @@
 -- Numbers and bytes as a script writes them.
-use Rattle.std.specs.Prelude.{Bool, true, false, List, [], ◌∷◌, ℕ, ◌+◌, ◌-◌, ◌*◌, ◌/◌, ◌%◌, ◌^◌, eqb, leb, ltb, length}
+use Rattle.std.specs.Prelude.{Bool, true, List, [], ◌∷◌, ℕ, ◌+◌, ◌-◌, ◌*◌, ◌/◌, ◌%◌, ◌^◌, eqb, leb, ltb, length}
 use Rattle.base.specs.Stores.{laid}
 use Rattle.base.specs.Table.{pick, within}
 use Rattle.base.specs.Tests.{both}

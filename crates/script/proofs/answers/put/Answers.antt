@@ -1,6 +1,5 @@
 -- `script::answers::put` meets its contract.
 use mathlib.Core.Path.{sym, ◌∙◌}
-use borrow.Author.Rules.{rules}
 use borrow.Author.Tests.{leb-true}
 use Rattle.script.proofs.Putting.{put_fits, put_not}
 use Rattle.script.proofs.answers.put.Goals as goal

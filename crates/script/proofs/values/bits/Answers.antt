@@ -1,6 +1,5 @@
 -- `script::values::bits` meets its contract, arm by arm.
 use native.Mathlib.Omega.{arith}
-use borrow.Author.Rules.{rules}
 use Rattle.script.proofs.Reading.{bits_figure, bits_letter, bits_low, bits_between, bits_high}
 use Rattle.script.proofs.values.bits.Goals as goal
 

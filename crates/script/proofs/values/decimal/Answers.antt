@@ -1,11 +1,6 @@
 -- `script::values::decimal` meets its contract. The loop's invariant: the number that is read, with what is left of the word behind it.
-use mathlib.Core.Path.{◌≡◌, refl, sym, ◌∙◌}
-use Prim.Native.Nat.{◌≤◌, ◌-◌}
+use mathlib.Core.Path.{refl, sym, ◌∙◌}
 use native.Mathlib.Omega.{arith}
-use borrow.Author.Rules.{rules}
-use lib.ListN.{length, drop}
-use Rattle.script.specs.declared.values.Value.TheVariants.{Is}
-use Rattle.script.specs.Values.{read_on}
 use Rattle.script.proofs.Reading.{read_more, read-bad, read-ended, decimal-few, decimal-many, decimal-read}
 use Rattle.script.proofs.values.decimal.Goals as goal
 
@@ -23,7 +18,7 @@ bounds-word-i c = omega arith
 
 pub returns-in-Bad : goal.returns-in-Bad
 returns-in-Bad c =
-    let next = read_more _ c.loop-i.i _ (omega arith) c.loop-i.invariant.1 (sym c.enum_told-1.given.1 ∙ c.more.ensures) in
+    let next = read_more _ c.loop-i.i _ (omega arith) c.loop-i.invariant.1 (sym c.in-Bad.is ∙ c.more.ensures) in
     decimal-read _ c.if-word-lt1.false c.if-word-gt20.false (next ∙ read-bad _)
 
 pub overflow_add-i : goal.overflow_add-i
@@ -34,7 +29,7 @@ loop-i-smaller c = omega arith
 
 pub loop-i-preserved : goal.loop-i-preserved
 loop-i-preserved c =
-    (omega arith, read_more _ c.loop-i.i _ (omega arith) c.loop-i.invariant.1 (sym c.m-1.given.1 ∙ c.more.ensures))
+    (omega arith, read_more _ c.loop-i.i _ (omega arith) c.loop-i.invariant.1 (sym c.in-Is.is ∙ c.more.ensures))
 
 pub returns : goal.returns
 returns c =

@@ -1,12 +1,9 @@
 -- `script::values::decimal` meets its contract. The loop's invariant: the number that is read, with what is left of the word behind it.
-use mathlib.Core.Path.{◌≡◌, refl, sym, ◌∙◌}
+use mathlib.Core.Path.{◌≡◌}
 use Prim.Native.Nat.{◌≤◌, ◌-◌}
-use native.Mathlib.Omega.{arith}
-use borrow.Author.Rules.{rules}
 use lib.ListN.{length, drop}
 use Rattle.script.specs.declared.values.Value.TheVariants.{Is}
 use Rattle.script.specs.Values.{read_on}
-use Rattle.script.proofs.Reading.{read_more, read-bad, read-ended, decimal-few, decimal-many, decimal-read}
 use Rattle.script.proofs.values.decimal.Given as goal
 
 abbrev pub invariant-loop-i : goal.invariant-loop-i

@@ -1,10 +1,6 @@
 -- `script::values::digits` meets its contract. The loop's invariant: what is left of the word decides.
-use mathlib.Core.Path.{◌≡◌, refl, sym, ◌∙◌}
-use Prim.Native.Nat.{◌≤◌, ◌-◌}
+use mathlib.Core.Path.{refl, sym, ◌∙◌}
 use native.Mathlib.Omega.{arith}
-use borrow.Author.Rules.{rules}
-use lib.ListN.{length, drop}
-use Rattle.script.specs.Values.{all_digits}
 use Rattle.script.proofs.Reading.{digits_on, digits_not, digits_ended}
 use Rattle.script.proofs.values.digits.Goals as goal
 

@@ -1,5 +1,4 @@
 -- `script::values::joined` meets its contract.
-use borrow.Author.Rules.{rules}
 use Rattle.script.proofs.Reading.{byte_joined}
 use Rattle.script.proofs.values.joined.Goals as goal
 

@@ -1,10 +1,7 @@
 -- `script::values::lay` meets its contract. The loop's invariant: the first i bytes are laid over the store.
-use mathlib.Core.Path.{◌≡◌, refl}
-use Prim.Native.Nat.{◌≤◌, ◌-◌, ◌/◌}
+use mathlib.Core.Path.{refl}
 use native.Mathlib.Omega.{arith}
-use borrow.Author.Rules.{rules}
-use lib.ListN.{length, take, length-set}
-use Rattle.base.specs.Stores.{laid}
+use lib.ListN.{length-set}
 use Rattle.base.proofs.Stores.{laid_none, laid-all}
 use Rattle.script.specs.Values.{bytes_of}
 use Rattle.script.proofs.Reading.{length-bytes, lay_more}

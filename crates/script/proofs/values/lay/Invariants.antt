@@ -1,13 +1,9 @@
 -- `script::values::lay` meets its contract. The loop's invariant: the first i bytes are laid over the store.
-use mathlib.Core.Path.{◌≡◌, refl}
+use mathlib.Core.Path.{◌≡◌}
 use Prim.Native.Nat.{◌≤◌, ◌-◌, ◌/◌}
-use native.Mathlib.Omega.{arith}
-use borrow.Author.Rules.{rules}
-use lib.ListN.{length, take, length-set}
+use lib.ListN.{length, take}
 use Rattle.base.specs.Stores.{laid}
-use Rattle.base.proofs.Stores.{laid_none, laid-all}
 use Rattle.script.specs.Values.{bytes_of}
-use Rattle.script.proofs.Reading.{length-bytes, lay_more}
 use Rattle.script.proofs.values.lay.Given as goal
 
 abbrev pub invariant-loop-i : goal.invariant-loop-i

@@ -1,6 +1,5 @@
 -- `script::values::more` meets its contract.
 use native.Mathlib.Omega.{arith}
-use borrow.Author.Rules.{rules}
 use Rattle.script.proofs.Reading.{more_low, more_high, more_large, more_fits}
 use Rattle.script.proofs.values.more.Goals as goal
 

@@ -2,7 +2,6 @@
 use mathlib.Core.Path.{◌≡◌, sym, ◌∙◌}
 use mathlib.Core.Bool.{false}
 use mathlib.Core.List.{◌∷◌, []}
-use borrow.Author.Rules.{rules}
 use Rattle.script.specs.Words.{same_bytes}
 use Rattle.script.proofs.Reading.{hex-none, hex-wide, hex-empty, hex-odd, hex-other, hex-digits}
 use Rattle.script.proofs.values.told.Goals as goal

@@ -1,5 +1,4 @@
 -- `script::words::behind` meets its contract.
-use borrow.Author.Rules.{rules}
 use Rattle.script.proofs.Splitting.{behind-within, behind-the_end}
 use Rattle.script.proofs.words.behind.Goals as goal
 

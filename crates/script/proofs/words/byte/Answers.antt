@@ -1,7 +1,6 @@
 -- `script::words::byte` meets its contract.
 use mathlib.Core.Path.{sym}
 use lib.ListN.{get_or-eq_default}
-use borrow.Author.Rules.{rules}
 use Rattle.script.proofs.words.byte.Goals as goal
 
 pub returns : goal.returns

@@ -1,13 +1,9 @@
 -- `script::words::count` meets its contract. The loop's invariant: the words that are counted, and those from place i on, the first of which
 -- is counted already.
-use mathlib.Core.Path.{◌≡◌}
-use mathlib.Core.Logic.{⊎_elim}
-use Prim.Native.Nat.{◌≤◌, ◌+◌, ◌-◌}
 use native.Mathlib.Omega.{arith}
-use lib.ListN.{length, drop}
-use Rattle.script.specs.Words.{words_of}
 use Rattle.script.proofs.Splitting.{count_space, count_other, count_ended}
 use Rattle.script.proofs.words.count.Goals as goal
+use Rattle.script.proofs.words.count.Goals.{then-line-i-eq32, else-line-i-eq32}
 
 pub loop-i-init : goal.loop-i-init
 loop-i-init c = omega arith
@@ -26,7 +22,10 @@ loop-i-smaller c = omega arith
 
 pub loop-i-preserved : goal.loop-i-preserved
 loop-i-preserved c =
-    ⊎_elim (λ w. omega (arith, count_space c.args.line.now c.loop-i.i (omega arith) w.0.taken)) (λ w. omega (arith, count_other c.args.line.now c.loop-i.i (omega arith) w.0.left)) c.if-line-i-eq32.branch
+    elim c.if-line-i-eq32.branch [
+      | then-line-i-eq32 w ↦ omega (arith, count_space c.args.line.now c.loop-i.i (omega arith) w.if-line-i-eq32.true)
+      | else-line-i-eq32 w ↦ omega (arith, count_other c.args.line.now c.loop-i.i (omega arith) w.if-line-i-eq32.false)
+    ]
 
 pub returns : goal.returns
 returns c =

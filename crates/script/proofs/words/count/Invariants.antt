@@ -1,12 +1,9 @@
 -- `script::words::count` meets its contract. The loop's invariant: the words that are counted, and those from place i on, the first of which
 -- is counted already.
 use mathlib.Core.Path.{◌≡◌}
-use mathlib.Core.Logic.{⊎_elim}
 use Prim.Native.Nat.{◌≤◌, ◌+◌, ◌-◌}
-use native.Mathlib.Omega.{arith}
 use lib.ListN.{length, drop}
 use Rattle.script.specs.Words.{words_of}
-use Rattle.script.proofs.Splitting.{count_space, count_other, count_ended}
 use Rattle.script.proofs.words.count.Given as goal
 
 abbrev pub invariant-loop-i : goal.invariant-loop-i

@@ -1,10 +1,8 @@
 -- `script::words::find` meets its contract. The loop's invariant: what is found from a place on lies so much further.
 use mathlib.Core.Path.{◌≡◌}
 use Prim.Native.Nat.{◌≤◌, ◌+◌, ◌-◌}
-use native.Mathlib.Omega.{arith}
 use lib.ListN.{length, drop}
 use Rattle.script.specs.Words.{find_in}
-use Rattle.script.proofs.Splitting.{find_on, find_here, find_ended}
 use Rattle.script.proofs.words.find.Given as goal
 
 abbrev pub invariant-loop-at : goal.invariant-loop-at

@@ -1,12 +1,8 @@
 -- `script::words::place` meets its contract. The loop's invariant: the names that are passed, and the word's place among the others.
-use mathlib.Core.Path.{◌≡◌, sym, ◌∙◌}
+use mathlib.Core.Path.{◌≡◌}
 use Prim.Native.Nat.{◌≤◌, ◌+◌}
-use native.Mathlib.Omega.{arith}
-use borrow.Author.Rules.{rules}
 use lib.ListN.{length}
-use lib.Seq.{length-take-le}
 use Rattle.script.specs.Words.{words_of, place_in}
-use Rattle.script.proofs.Splitting.{find_within, place_here, place_none, place_on}
 use Rattle.script.proofs.words.place.Given as goal
 
 abbrev pub invariant-loop-others : goal.invariant-loop-others

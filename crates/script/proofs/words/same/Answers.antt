@@ -1,9 +1,6 @@
 -- `script::words::same` meets its contract. The loop's invariant: what is left of the two words decides.
-use mathlib.Core.Path.{◌≡◌, refl, sym, ◌∙◌}
-use Prim.Native.Nat.{◌≤◌, ◌-◌}
+use mathlib.Core.Path.{refl, sym, ◌∙◌}
 use native.Mathlib.Omega.{arith}
-use lib.ListN.{length, drop}
-use Rattle.script.specs.Words.{same_bytes}
 use Rattle.script.proofs.Splitting.{same_lengths, same_on, same_not, same_ended}
 use Rattle.script.proofs.words.same.Goals as goal
 

@@ -1,10 +1,8 @@
 -- `script::words::same` meets its contract. The loop's invariant: what is left of the two words decides.
-use mathlib.Core.Path.{◌≡◌, refl, sym, ◌∙◌}
+use mathlib.Core.Path.{◌≡◌}
 use Prim.Native.Nat.{◌≤◌, ◌-◌}
-use native.Mathlib.Omega.{arith}
 use lib.ListN.{length, drop}
 use Rattle.script.specs.Words.{same_bytes}
-use Rattle.script.proofs.Splitting.{same_lengths, same_on, same_not, same_ended}
 use Rattle.script.proofs.words.same.Given as goal
 
 abbrev pub invariant-loop-i : goal.invariant-loop-i

@@ -1,13 +1,9 @@
 -- `script::words::word` meets its contract. The loop's invariant: the word that is looked for is the one at the place `left` in the rest.
-use mathlib.Core.Path.{◌≡◌, refl, sym, ◌∙◌}
+use mathlib.Core.Path.{◌≡◌}
 use mathlib.Core.List.{[]}
 use Prim.Native.Nat.{◌≤◌}
-use native.Mathlib.Omega.{arith}
-use borrow.Author.Rules.{rules}
 use lib.ListN.{length, get_or}
-use lib.Seq.{length-take-le}
 use Rattle.script.specs.Words.{words_of}
-use Rattle.script.proofs.Splitting.{find_within, word_on, word_lacks, word_here}
 use Rattle.script.proofs.words.word.Given as goal
 
 abbrev pub invariant-loop-left : goal.invariant-loop-left
