@@ -1,8 +1,7 @@
 // Masking and the UTF-8 check alone.
 
 // Masks a piece into a store from its front on, where it fits.
-#[unsafe(no_mangle)]
-pub extern "C" fn bench_mask(piece: &[u8], store: &mut [u8], mask: u32) -> bool {
+pub fn bench_mask(piece: &[u8], store: &mut [u8], mask: u32) -> bool {
     if store.len() < piece.len() {
         return false;
     }
@@ -11,8 +10,7 @@ pub extern "C" fn bench_mask(piece: &[u8], store: &mut [u8], mask: u32) -> bool 
 }
 
 // The same by single bytes, as the bytes go that are left behind the blocks. Nothing but the measure uses it.
-#[unsafe(no_mangle)]
-pub extern "C" fn bench_mask_bytes(piece: &[u8], store: &mut [u8], mask: u32) -> bool {
+pub fn bench_mask_bytes(piece: &[u8], store: &mut [u8], mask: u32) -> bool {
     if store.len() < piece.len() {
         return false;
     }
@@ -28,8 +26,7 @@ pub extern "C" fn bench_mask_bytes(piece: &[u8], store: &mut [u8], mask: u32) ->
 }
 
 // Whether a piece is a whole text.
-#[unsafe(no_mangle)]
-pub extern "C" fn bench_utf8(piece: &[u8]) -> bool {
+pub fn bench_utf8(piece: &[u8]) -> bool {
     let scanned = utf8::scan(utf8::START, piece);
     utf8::is_whole(scanned.progress)
 }

@@ -2,11 +2,12 @@
 // made from inside. These functions are there to be measured, so their contracts say no more than that they are safe and end; what the
 // calls give is promised by their own crates, and the measuring program holds the counts that come out to the other side's.
 //
-// Compiled together, these loops share the calls. bench_read and bench_binary have one loop each, as a program with one such loop has.
+// Compiled together, as bench_c exports them, these loops share the calls. bench_read and bench_binary have one loop each, as a program with
+// one such loop has.
 #![tactic(auto)]
 
-mod leaves;
-mod listings;
+pub mod leaves;
+pub mod listings;
 mod places;
 pub mod reads;
 pub mod sends;

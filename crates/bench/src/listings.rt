@@ -85,8 +85,7 @@ fn turn(
 
 // Lists a capture into a store, which is filled again from its front whenever it is full. Gives the bytes of the listing. The loop counts
 // its turns down, from a number that no capture uses up.
-#[unsafe(no_mangle)]
-pub extern "C" fn bench_list(bytes: &[u8], out: &mut [u8]) -> u64 {
+pub fn bench_list(bytes: &[u8], out: &mut [u8]) -> u64 {
     let mut message = [0u8; 32768];
     let mut control = [0u8; 125];
     let mut output = [0u8; 131];

@@ -30,8 +30,8 @@ fn no_masks() -> Masks {
 
 fn with_event(tally: Tally, n: usize) -> Tally {
     Tally {
-        events: tally.events.wrapping_add(1),
-        bytes: tally.bytes.wrapping_add(n as u64),
+        events: std::num::wrapping_add_u64(tally.events, 1),
+        bytes: std::num::wrapping_add_u64(tally.bytes, n as u64),
     }
 }
 
@@ -93,8 +93,7 @@ fn read_all(
 }
 
 // Reads a stream in pieces of `size` bytes, in a session of its own. Gives the bytes that its events showed, and counts the events.
-#[unsafe(no_mangle)]
-pub extern "C" fn bench_read_shared(
+pub fn bench_read_shared(
     client: bool,
     stream: &[u8],
     size: usize,

@@ -21,8 +21,7 @@ fn masks_of(mask: u32) -> Masks {
 
 // Sends payloads of `size` bytes that stand one behind the other, each as a binary message, and takes all that is held behind each. Gives
 // the bytes that were taken.
-#[unsafe(no_mangle)]
-pub extern "C" fn bench_binary_shared(
+pub fn bench_binary_shared(
     client: bool,
     payloads: &[u8],
     size: usize,
@@ -50,14 +49,7 @@ pub extern "C" fn bench_binary_shared(
 }
 
 // The same as texts.
-#[unsafe(no_mangle)]
-pub extern "C" fn bench_text(
-    client: bool,
-    payloads: &[u8],
-    size: usize,
-    mask: u32,
-    output: &mut [u8],
-) -> u64 {
+pub fn bench_text(client: bool, payloads: &[u8], size: usize, mask: u32, output: &mut [u8]) -> u64 {
     let mut session = crate::reads::session_of(client, 0);
     let masks = masks_of(mask);
     let mut bytes = 0;
@@ -98,8 +90,7 @@ fn take_all(begun: Session, size: usize, output: &mut [u8]) -> u64 {
 }
 
 // Sends a payload once and takes what is held, `size` bytes at a time. Gives the number of takes.
-#[unsafe(no_mangle)]
-pub extern "C" fn bench_take(payload: &[u8], size: usize, output: &mut [u8]) -> u64 {
+pub fn bench_take(payload: &[u8], size: usize, output: &mut [u8]) -> u64 {
     let session = crate::reads::session_of(false, 0);
     let sent = writer::send::binary(session, payload, masks_of(0), output);
     let held = sent.session;

@@ -1,4 +1,6 @@
 // The loop over the sending of binary messages, alone, for `./harrowlink speed` (docs/SPEED.md).
+#![tactic(auto)]
+
 #[unsafe(no_mangle)]
 pub extern "C" fn bench_binary(
     client: bool,

@@ -1,4 +1,6 @@
 // The loop over the read call, alone, for `./harrowlink speed` (docs/SPEED.md).
+#![tactic(auto)]
+
 #[unsafe(no_mangle)]
 pub extern "C" fn bench_read(
     client: bool,

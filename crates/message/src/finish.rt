@@ -177,9 +177,9 @@ pub(crate) fn finish_now(
     incoming: Incoming,
     control: &[u8],
 ) -> Decided
-    requires header_value { header ≡ frame incoming }
-    requires header_value_2 { first_of (header_tests settings header) ≡ 0 }
-    requires in_bounds { 125 ≤ length control.now }
+    requires header_kept { header ≡ frame incoming }
+    requires header_legal { first_of (header_tests settings header) ≡ 0 }
+    requires control_room { 125 ≤ length control.now }
     ensures { (m : List ℕ) → world result.incoming m control.now result.answer ≡ finish settings state (world incoming m control.now Answer.More) }
 {
     let number = verdict_of(settings, state, header, incoming, control);

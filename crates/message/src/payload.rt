@@ -84,12 +84,12 @@ pub(crate) fn lay_run(
     message: &mut [u8],
     control: &mut [u8],
 ) -> u8
-    requires header_value { header ≡ frame incoming }
-    requires header_value_2 { first_of (header_tests settings header) ≡ 0 }
-    requires kept_bound { incoming.kept ≤ 14 }
-    requires run_bound { incoming.counted + length run.now ≤ header.length }
-    requires message_in_bounds { settings.message ≤ length message.old }
-    requires in_bounds { 125 ≤ length control.old }
+    requires header_kept { header ≡ frame incoming }
+    requires header_legal { first_of (header_tests settings header) ≡ 0 }
+    requires few_kept { incoming.kept ≤ 14 }
+    requires run_fits { incoming.counted + length run.now ≤ header.length }
+    requires message_room { settings.message ≤ length message.old }
+    requires control_room { 125 ≤ length control.old }
     ensures { world (counts incoming (length run.now) result) message.new control.new Answer.More ≡ stored settings state (world incoming message.old control.old Answer.More) run.now }
 {
     if crate::doom::doom_of(settings, state, header, incoming) != 0 {
@@ -118,12 +118,12 @@ pub(crate) fn store_some(
     message: &mut [u8],
     control: &mut [u8],
 ) -> Incoming
-    requires header_value { header ≡ frame incoming }
-    requires header_value_2 { first_of (header_tests settings header) ≡ 0 }
-    requires kept_bound { incoming.kept ≤ 14 }
-    requires run_bound { 0 < length run.now → incoming.counted + length run.now ≤ header.length }
-    requires message_in_bounds { settings.message ≤ length message.old }
-    requires in_bounds { 125 ≤ length control.old }
+    requires header_kept { header ≡ frame incoming }
+    requires header_legal { first_of (header_tests settings header) ≡ 0 }
+    requires few_kept { incoming.kept ≤ 14 }
+    requires run_fits { 0 < length run.now → incoming.counted + length run.now ≤ header.length }
+    requires message_room { settings.message ≤ length message.old }
+    requires control_room { 125 ≤ length control.old }
     ensures { world result message.new control.new Answer.More ≡ reached settings state (world incoming message.old control.old Answer.More) run.now }
 {
     if run.len() == 0 {

@@ -77,9 +77,9 @@ fn stays(answer: Answer, at: usize, incoming: Incoming) -> Went
 
 // A turn in a header: as many bytes as it surely lacks. Each of them but the last leaves it lacking, so there is nothing to look at between.
 fn head_turn(incoming: Incoming, piece: &[u8], at: usize) -> Went
-    requires at_in_bounds { at ≤ length piece.now }
-    requires kept_bound { incoming.kept ≤ 14 }
-    requires incoming_value { header_whole incoming ≡ false }
+    requires at_within { at ≤ length piece.now }
+    requires few_kept { incoming.kept ≤ 14 }
+    requires header_lacks { header_whole incoming ≡ false }
     ensures { (g : Limits) (state : ℕ) (m c : List ℕ) → Turned g state piece.now at result.at (world incoming m c Answer.More) (world result.incoming m c result.answer) result.on }
 {
     if piece.len() <= at {
@@ -106,13 +106,13 @@ fn payload_turn(
     message: &mut [u8],
     control: &mut [u8],
 ) -> Went
-    requires at_in_bounds { at ≤ length piece.now }
-    requires header_value { header ≡ frame incoming }
-    requires incoming_value { header_whole incoming ≡ true }
-    requires header_value_2 { first_of (header_tests settings header) ≡ 0 }
-    requires kept_bound { incoming.kept ≤ 14 }
-    requires message_in_bounds { settings.message ≤ length message.old }
-    requires in_bounds { 125 ≤ length control.old }
+    requires at_within { at ≤ length piece.now }
+    requires header_kept { header ≡ frame incoming }
+    requires header_is_whole { header_whole incoming ≡ true }
+    requires header_legal { first_of (header_tests settings header) ≡ 0 }
+    requires few_kept { incoming.kept ≤ 14 }
+    requires message_room { settings.message ≤ length message.old }
+    requires control_room { 125 ≤ length control.old }
     ensures { Turned settings state piece.now at result.at (world incoming message.old control.old Answer.More) (world result.incoming message.new control.new result.answer) result.on }
 {
     let end = run_end(at, piece.len(), left_of(header.length, incoming.counted));
@@ -149,10 +149,10 @@ fn advance(
     message: &mut [u8],
     control: &mut [u8],
 ) -> Went
-    requires at_in_bounds { at ≤ length piece.now }
-    requires kept_bound { incoming.kept ≤ 14 }
-    requires message_in_bounds { settings.message ≤ length message.old }
-    requires in_bounds { 125 ≤ length control.old }
+    requires at_within { at ≤ length piece.now }
+    requires few_kept { incoming.kept ≤ 14 }
+    requires message_room { settings.message ≤ length message.old }
+    requires control_room { 125 ≤ length control.old }
     ensures { Turned settings state piece.now at result.at (world incoming message.old control.old Answer.More) (world result.incoming message.new control.new result.answer) result.on }
 {
     let bytes = incoming.header;
@@ -230,10 +230,10 @@ pub fn take_within(
     message: &mut [u8],
     control: &mut [u8],
 ) -> Within
-    requires kept_bound { incoming.kept ≤ 14 }
-    requires header_value { header ≡ parsed (kept incoming) }
-    requires message_in_bounds { settings.message ≤ length message.old }
-    requires in_bounds { 125 ≤ length control.old }
+    requires few_kept { incoming.kept ≤ 14 }
+    requires header_kept { header ≡ parsed (kept incoming) }
+    requires message_room { settings.message ≤ length message.old }
+    requires control_room { 125 ≤ length control.old }
     ensures { (result.holds ≡ true → (end ≡ false) × (after (world (reaches incoming result.counted result.progress) message.new control.new Answer.More) (length piece.now) ≡ feed settings state (after (settle settings state (world incoming message.old control.old Answer.More)) 0) piece.now)) × (result.holds ≡ false → (message.new ≡ message.old) × (control.new ≡ control.old)) }
 {
     if end {
@@ -266,9 +266,9 @@ pub fn take_bytes(
     message: &mut [u8],
     control: &mut [u8],
 ) -> Taken
-    requires kept_bound { incoming.kept ≤ 14 }
-    requires message_in_bounds { settings.message ≤ length message.old }
-    requires in_bounds { 125 ≤ length control.old }
+    requires few_kept { incoming.kept ≤ 14 }
+    requires message_room { settings.message ≤ length message.old }
+    requires control_room { 125 ≤ length control.old }
     ensures { after (world result.incoming message.new control.new result.answer) result.at ≡ feed settings state (after (settle settings state (world incoming message.old control.old Answer.More)) 0) piece.now }
 {
     let mut next = incoming;

@@ -101,7 +101,7 @@ pub(crate) fn conclude_with(
     control: &mut [u8],
 ) -> Concluded
     requires shows { Shows answer }
-    requires in_bounds { 125 ≤ length control.old }
+    requires control_room { 125 ≤ length control.old }
     ensures { (g : Settings) (i : Incoming) (held : ℕ) → concluded result.answer (session_of g result.state result.refusal i result.reply held) control.new ≡ conclude answer (session_of g state refusal i reply held) control.old }
 {
     let same = Concluded {

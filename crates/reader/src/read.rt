@@ -142,7 +142,7 @@ fn left_by(
     control: &mut [u8],
 ) -> Gone
     requires shows { Shows answer }
-    requires in_bounds { 125 ≤ length control.old }
+    requires control_room { 125 ≤ length control.old }
     ensures { (g : Limits) (held : ℕ) → leaves (turn result.answer result.taken (session_of g result.state result.refusal result.incoming result.reply held)) control.new ≡ left_by (session_of g state refusal incoming reply held) answer control.old end taken }
 {
     let left = crate::conclude::conclude_with(answer, state, refusal, reply, control);
@@ -172,9 +172,9 @@ fn take_on(
     message: &mut [u8],
     control: &mut [u8],
 ) -> Gone
-    requires length_value { range_of settings state refusal incoming reply.waiting reply.length ≡ true }
-    requires message_in_bounds { settings.message ≤ length message.old }
-    requires in_bounds { 125 ≤ length control.old }
+    requires ranged { range_of settings state refusal incoming reply.waiting reply.length ≡ true }
+    requires message_room { settings.message ≤ length message.old }
+    requires control_room { 125 ≤ length control.old }
     ensures { (held : ℕ) (output : List ℕ) → read (turn result.answer result.taken (session_of settings result.state result.refusal result.incoming result.reply held)) message.new control.new output ≡ take_bytes (session_of settings state refusal incoming reply held) piece.now end message.old control.old output }
 {
     let taken = message::pump::take_bytes(settings, state, incoming, piece, message, control);
@@ -205,9 +205,9 @@ fn read_on(
     message: &mut [u8],
     control: &mut [u8],
 ) -> Gone
-    requires length_value { range_of settings state refusal incoming reply.waiting reply.length ≡ true }
-    requires message_in_bounds { settings.message ≤ length message.old }
-    requires in_bounds { 125 ≤ length control.old }
+    requires ranged { range_of settings state refusal incoming reply.waiting reply.length ≡ true }
+    requires message_room { settings.message ≤ length message.old }
+    requires control_room { 125 ≤ length control.old }
     ensures { (held : ℕ) (output : List ℕ) → read (turn result.answer result.taken (session_of settings result.state result.refusal result.incoming result.reply held)) message.new control.new output ≡ read_on (session_of settings state refusal incoming reply held) piece.now end message.old control.old output }
 {
     if is_over(settings, state) {

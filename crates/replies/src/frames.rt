@@ -51,8 +51,8 @@ pub fn put_frame(
     output: &mut [u8],
     at: usize,
 ) -> usize
-    requires count_bound { count ≤ 2 }
-    requires piece_in_bounds { at + (header_size client (count + length piece.now) + (count + length piece.now)) ≤ length output.old }
+    requires two_at_most { count ≤ 2 }
+    requires frame_room { at + (header_size client (count + length piece.now) + (count + length piece.now)) ≤ length output.old }
     ensures { (result ≡ at + length (encoded client opcode mask (take count lead ++ piece.now))) × (output.new ≡ laid output.old at (encoded client opcode mask (take count lead ++ piece.now))) }
 {
     let header = frame_header(client, opcode, count + piece.len());

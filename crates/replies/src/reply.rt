@@ -88,8 +88,8 @@ pub fn move_reply(
     mask: [u8; 4],
     output: &mut [u8],
 ) -> Moved
-    requires length_bound { waits reply.waiting ≡ true → reply.length ≤ 125 }
-    requires held_in_bounds { held ≤ length output.old }
+    requires reply_short { waits reply.waiting ≡ true → reply.length ≤ 125 }
+    requires held_within { held ≤ length output.old }
     ensures { moving result.reply result.held output.new ≡ move_of client reply held mask output.old }
 {
     let waiting = reply.waiting;

@@ -10,13 +10,13 @@ pub returns-then-run-eq0 : goal.returns-then-run-eq0
 returns-then-run-eq0 c = let a = c.args in reached-none a.settings a.state _ a.run.now c.if-run-eq0.true
 
 pub lay_run-progress-requires : goal.lay_run-progress-requires
-lay_run-progress-requires c = record { header_value = c.requires.header_value; header_value_2 = c.requires.header_value_2; kept_bound = c.requires.kept_bound; run_bound = c.requires.run_bound (omega arith); message_in_bounds = c.requires.message_in_bounds; in_bounds = c.requires.in_bounds }
+lay_run-progress-requires c = record { header_kept = c.requires.header_kept; header_legal = c.requires.header_legal; few_kept = c.requires.few_kept; run_fits = c.requires.run_fits (omega arith); message_room = c.requires.message_room; control_room = c.requires.control_room }
 
 pub count_on-requires : goal.count_on-requires
 count_on-requires c =
     let countable : c.args.header.length ≤ 18446744073709551615 =
     search rules in
-    omega (arith, c.requires.run_bound (omega (arith, c.if-run-eq0.false)), countable)
+    omega (arith, c.requires.run_fits (omega (arith, c.if-run-eq0.false)), countable)
 
 pub returns : goal.returns
 returns c =

@@ -17,20 +17,20 @@ use Rattle.message.proofs.pump.advance.Goals as goal
 pub slice_bounds-bytes-end : goal.slice_bounds-bytes-end
 slice_bounds-bytes-end c =
     let fourteen : c.args.incoming.kept ≤ length c.args.incoming.header =
-    let e : length c.args.incoming.header ≡ 14 = search rules in omega (arith, c.requires.kept_bound) in
+    let e : length c.args.incoming.header ≡ 14 = search rules in omega (arith, c.requires.few_kept) in
     fourteen
 
 pub slice_bounds-parse-end : goal.slice_bounds-parse-end
 slice_bounds-parse-end c =
     let fourteen : c.args.incoming.kept ≤ length c.args.incoming.header =
-    let e : length c.args.incoming.header ≡ 14 = search rules in omega (arith, c.requires.kept_bound) in
+    let e : length c.args.incoming.header ≡ 14 = search rules in omega (arith, c.requires.few_kept) in
     sym (length-take-le c.args.incoming.kept c.args.incoming.header fourteen)
 
 pub head_turn-requires : goal.head_turn-requires
 head_turn-requires c =
     let lacking : header_whole c.args.incoming ≡ false =
     whole_lacking c.args.incoming (sym c.parse.ensures ∙ c.in-Lacking.is) in
-    record { at_in_bounds = c.requires.at_in_bounds; kept_bound = c.requires.kept_bound; incoming_value = lacking }
+    record { at_within = c.requires.at_within; few_kept = c.requires.few_kept; header_lacks = lacking }
 
 pub returns-then-number-ne0 : goal.returns-then-number-ne0
 returns-then-number-ne0 c =
@@ -41,7 +41,7 @@ returns-then-number-ne0 c =
     let kept-one : c.in-Whole.header ≡ frame c.args.incoming =
     sym (frame-there c.args.incoming _ whole) in
     rw c.stays.ensures
-    (turned_still c.args.settings c.args.state c.args.piece.now c.args.at _ _ c.requires.at_in_bounds
+    (turned_still c.args.settings c.args.state c.args.piece.now c.args.at _ _ c.requires.at_within
     (settle-refused c.args.settings c.args.state c.args.incoming c.args.message.now c.args.control.now _ there kept-one c.header_number-number.ensures c.if-number-ne0.true)
     refl)
 
@@ -53,7 +53,7 @@ payload_turn-requires c =
     whole_there c.args.incoming _ whole in
     let kept-one : c.in-Whole.header ≡ frame c.args.incoming =
     sym (frame-there c.args.incoming _ whole) in
-    record { at_in_bounds = c.requires.at_in_bounds; header_value = kept-one; incoming_value = there; header_value_2 = sym c.header_number-number.ensures ∙ c.if-number-ne0.false; kept_bound = c.requires.kept_bound; message_in_bounds = c.requires.message_in_bounds; in_bounds = c.requires.in_bounds }
+    record { at_within = c.requires.at_within; header_kept = kept-one; header_is_whole = there; header_legal = sym c.header_number-number.ensures ∙ c.if-number-ne0.false; few_kept = c.requires.few_kept; message_room = c.requires.message_room; control_room = c.requires.control_room }
 
 pub returns-in-Lacking : goal.returns-in-Lacking
 returns-in-Lacking c = c.head_turn.ensures _ _ _ _

@@ -18,16 +18,16 @@ loop-at-init c =
       within = omega arith;
       message_length = refl;
       control_length = refl;
-      message_room = c.requires.message_in_bounds;
-      control_room = c.requires.in_bounds;
-      few = c.requires.kept_bound;
+      message_room = c.requires.message_room;
+      control_room = c.requires.control_room;
+      few = c.requires.few_kept;
       fed = refl;
     }
 
 pub advance-went-requires : goal.advance-went-requires
 advance-went-requires c =
     let l = c.loop-at.invariant in
-    record { at_in_bounds = l.within; kept_bound = l.few; message_in_bounds = l.message_room; in_bounds = l.control_room }
+    record { at_within = l.within; few_kept = l.few; message_room = l.message_room; control_room = l.control_room }
 
 pub loop-at-smaller : goal.loop-at-smaller
 loop-at-smaller c = (c.advance-went.ensures.goes c.if-went.true).less

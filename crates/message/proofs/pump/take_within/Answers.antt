@@ -24,13 +24,13 @@ returns-then-not-stays_within c = ((λ t. not_both _ t c.not_within-then-not-sta
 pub lay_run-progress-requires : goal.lay_run-progress-requires
 lay_run-progress-requires c =
     let whole : parsed (kept c.args.incoming) ≡ Whole c.in-Whole.whole =
-    sym c.requires.header_value ∙ c.in-Whole.is in
+    sym c.requires.header_kept ∙ c.in-Whole.is in
     let kept-one : c.in-Whole.whole ≡ frame c.args.incoming =
     sym (frame-there c.args.incoming _ whole) in
     let stays : (0 < length c.args.piece.now) × (c.args.incoming.counted + length c.args.piece.now < c.in-Whole.whole.length) × (first_of (header_tests c.args.settings c.in-Whole.whole) ≡ 0) =
     c.stays_within.ensures c.if-not-stays_within.false in
     let s = stays in
-    record { header_value = kept-one; header_value_2 = s.2; kept_bound = c.requires.kept_bound; run_bound = omega (arith, s.1); message_in_bounds = c.requires.message_in_bounds; in_bounds = c.requires.in_bounds }
+    record { header_kept = kept-one; header_legal = s.2; few_kept = c.requires.few_kept; run_fits = omega (arith, s.1); message_room = c.requires.message_room; control_room = c.requires.control_room }
 
 pub overflow_add-result : goal.overflow_add-result
 overflow_add-result c =
@@ -46,7 +46,7 @@ returns-in-Lacking c = ((λ t. not_both _ t c.not_within-in-Lacking.ensures), (�
 pub returns-else-not-stays_within : goal.returns-else-not-stays_within
 returns-else-not-stays_within c =
     let whole : parsed (kept c.args.incoming) ≡ Whole c.in-Whole.whole =
-    sym c.requires.header_value ∙ c.in-Whole.is in
+    sym c.requires.header_kept ∙ c.in-Whole.is in
     let there : header_whole c.args.incoming ≡ true =
     whole_there c.args.incoming _ whole in
     let kept-one : c.in-Whole.whole ≡ frame c.args.incoming =

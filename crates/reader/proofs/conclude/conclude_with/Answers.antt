@@ -10,13 +10,13 @@ pub ping_came-requires : goal.ping_came-requires
 ping_came-requires c =
     let ping_short : c.in-Ping.n ≤ 125 =
     rw c.in-Ping.is at c.requires.shows in
-    (ping_short, omega (arith, ping_short, c.requires.in_bounds))
+    (ping_short, omega (arith, ping_short, c.requires.control_room))
 
 pub close_came-requires : goal.close_came-requires
 close_came-requires c =
     let close_short : c.in-Close.n ≤ 125 =
     rw c.in-Close.is at c.requires.shows in
-    (close_short, c.requires.in_bounds)
+    (close_short, c.requires.control_room)
 
 pub returns-in-Ping : goal.returns-in-Ping
 returns-in-Ping c g i held =

@@ -71,7 +71,7 @@ take_within-within-requires c =
     sym numbered ∙ c.if-number-ne0.false in
     let fit : Sound c.args.session c.args.message.now c.args.control.now c.args.output.now =
     sound _ _ _ _ none_owed in
-    record { kept_bound = (good (sym (range_session c.args.session) ∙ fit.ranged)).kept-most; header_value = c.kept_header-header.ensures; message_in_bounds = fit.room.for_message; in_bounds = fit.room.for_control }
+    record { few_kept = (good (sym (range_session c.args.session) ∙ fit.ranged)).kept-most; header_kept = c.kept_header-header.ensures; message_room = fit.room.for_message; control_room = fit.room.for_control }
 
 pub returns-then-within : goal.returns-then-within
 unfolding in_range stores_short output_short
@@ -109,7 +109,7 @@ take_bytes-taken-requires c =
     let fit : Sound c.args.session c.args.message.now c.args.control.now c.args.output.now =
     sound _ _ _ _ none_owed in
     let same = c.take_within-within.ensures.1 c.if-within.false in
-    record { kept_bound = (good (sym (range_session c.args.session) ∙ fit.ranged)).kept-most; message_in_bounds = rw same.0 fit.room.for_message; in_bounds = rw same.1 fit.room.for_control }
+    record { few_kept = (good (sym (range_session c.args.session) ∙ fit.ranged)).kept-most; message_room = rw same.0 fit.room.for_message; control_room = rw same.1 fit.room.for_control }
 
 pub returns-then-is_quiet : goal.returns-then-is_quiet
 unfolding in_range stores_short output_short
@@ -149,7 +149,7 @@ left_by-gone-requires c =
     sound _ _ _ _ none_owed in
     let come = fed-same c.args.session c.args.piece.now c.take_bytes-taken.ensures (c.take_within-within.ensures.1 c.if-within.false) in record {
       shows = shows c.args.session _ _ _ come shaped fit.ranged;
-      in_bounds = omega (arith, same_control c.args.session _ _ _ come, fit.room.for_control);
+      control_room = omega (arith, same_control c.args.session _ _ _ come, fit.room.for_control);
     }
 
 pub shape_of-message-then-is_calm : goal.shape_of-message-then-is_calm
@@ -196,7 +196,7 @@ move_reply-moved-requires c =
     sym numbered ∙ c.if-number-ne0.false in
     let fit : Sound c.args.session c.args.message.now c.args.control.now c.args.output.now =
     sound _ _ _ _ none_owed in
-    record { length_bound = (in_range_lem c.args.session fit.ranged).reply_short; held_in_bounds = fit.room.for_held }
+    record { reply_short = (in_range_lem c.args.session fit.ranged).reply_short; held_within = fit.room.for_held }
 
 pub read_on-gone-requires : goal.read_on-gone-requires
 unfolding in_range stores_short output_short
@@ -207,7 +207,7 @@ read_on-gone-requires c =
     sym numbered ∙ c.if-number-ne0.false in
     let fit : Sound c.args.session c.args.message.now c.args.control.now c.args.output.now =
     sound _ _ _ _ none_owed in
-    record { length_value = moved_range _ _ _ c.move_reply-moved.ensures fit.ranged; message_in_bounds = fit.room.for_message; in_bounds = fit.room.for_control }
+    record { ranged = moved_range _ _ _ c.move_reply-moved.ensures fit.ranged; message_room = fit.room.for_message; control_room = fit.room.for_control }
 
 pub returns : goal.returns
 unfolding in_range stores_short output_short

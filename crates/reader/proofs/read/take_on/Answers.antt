@@ -15,9 +15,9 @@ use Rattle.reader.proofs.read.take_on.Goals as goal
 pub take_bytes-taken-requires : goal.take_bytes-taken-requires
 take_bytes-taken-requires c =
     record {
-      kept_bound = (good c.requires.length_value).kept-most;
-      message_in_bounds = c.requires.message_in_bounds;
-      in_bounds = c.requires.in_bounds;
+      few_kept = (good c.requires.ranged).kept-most;
+      message_room = c.requires.message_room;
+      control_room = c.requires.control_room;
     }
 
 pub left_by-requires : goal.left_by-requires
@@ -25,10 +25,10 @@ left_by-requires c =
     let whole : ℕ → Session =
     λ held. session_of c.args.settings c.args.state c.args.refusal c.args.incoming c.args.reply held in
     let ranged : in_range (whole 0) ≡ true =
-    range_session (whole 0) ∙ c.requires.length_value in
+    range_session (whole 0) ∙ c.requires.ranged in
     let shaped : Shaped (whole 0) =
     (search rules, search rules) in
-    record { shows = shows (whole 0) _ _ _ c.take_bytes-taken.ensures shaped ranged; in_bounds = omega (arith, same_control (whole 0) _ _ _ c.take_bytes-taken.ensures, c.requires.in_bounds) }
+    record { shows = shows (whole 0) _ _ _ c.take_bytes-taken.ensures shaped ranged; control_room = omega (arith, same_control (whole 0) _ _ _ c.take_bytes-taken.ensures, c.requires.control_room) }
 
 pub returns : goal.returns
 returns c held output =

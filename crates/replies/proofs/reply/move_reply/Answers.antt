@@ -21,7 +21,7 @@ slice_bounds-payload-end c =
     sym c.waits.ensures ∙ c.if-waits.true in
     let within : c.args.reply.length ≤ length c.args.reply.payload =
     let size : length c.args.reply.payload ≡ 125 = search rules in
-    omega (arith, c.requires.length_bound waiting) in
+    omega (arith, c.requires.reply_short waiting) in
     within
 
 pub slice_bounds-put_frame-end : goal.slice_bounds-put_frame-end
@@ -30,7 +30,7 @@ slice_bounds-put_frame-end c =
     sym c.waits.ensures ∙ c.if-waits.true in
     let within : c.args.reply.length ≤ length c.args.reply.payload =
     let size : length c.args.reply.payload ≡ 125 = search rules in
-    omega (arith, c.requires.length_bound waiting) in
+    omega (arith, c.requires.reply_short waiting) in
     sym (length-take-le _ _ within)
 
 pub put_frame-behind-requires : goal.put_frame-behind-requires
@@ -39,12 +39,12 @@ put_frame-behind-requires c =
     sym c.waits.ensures ∙ c.if-waits.true in
     let within : c.args.reply.length ≤ length c.args.reply.payload =
     let size : length c.args.reply.payload ≡ 125 = search rules in
-    omega (arith, c.requires.length_bound waiting) in
+    omega (arith, c.requires.reply_short waiting) in
     let size : header_size c.args.client c.args.reply.length + c.args.reply.length ≤ length c.args.output.now - c.args.held =
     leb-true _ _ (sym c.reply_fits.ensures ∙ c.if-reply_fits.true) in
     record {
-      count_bound = search rules;
-      piece_in_bounds = simp (zero-add, length-take-le c.args.reply.length c.args.reply.payload within) (omega (arith, size, c.requires.held_in_bounds));
+      two_at_most = search rules;
+      frame_room = simp (zero-add, length-take-le c.args.reply.length c.args.reply.payload within) (omega (arith, size, c.requires.held_within));
     }
 
 pub returns-then-reply_fits : goal.returns-then-reply_fits
@@ -55,7 +55,7 @@ returns-then-reply_fits c =
     search rules in
     let within : c.args.reply.length ≤ length c.args.reply.payload =
     let size : length c.args.reply.payload ≡ 125 = search rules in
-    omega (arith, c.requires.length_bound waiting) in
+    omega (arith, c.requires.reply_short waiting) in
     let measured : fits c.args.held c.args.output.now (reply_bytes c.args.client c.args.reply c.args.mask) ≡ c.reply_fits.result =
     reply_fits_by c.args.client c.args.reply c.args.held c.args.mask c.args.output.now four within
     ∙ sym c.reply_fits.ensures in
@@ -70,7 +70,7 @@ returns-else-reply_fits c =
     search rules in
     let within : c.args.reply.length ≤ length c.args.reply.payload =
     let size : length c.args.reply.payload ≡ 125 = search rules in
-    omega (arith, c.requires.length_bound waiting) in
+    omega (arith, c.requires.reply_short waiting) in
     let measured : fits c.args.held c.args.output.now (reply_bytes c.args.client c.args.reply c.args.mask) ≡ c.reply_fits.result =
     reply_fits_by c.args.client c.args.reply c.args.held c.args.mask c.args.output.now four within
     ∙ sym c.reply_fits.ensures in

@@ -72,7 +72,7 @@ put_frame-behind-requires c =
     let n : ℕ = c.args.count + length c.args.piece.now in
     let size : header_size (is_client c.args.session.settings) n + n ≤ length c.args.output.now - c.args.session.held =
     leb-true _ _ (sym c.fits_in.ensures ∙ c.if-not-fits_in.false) in
-    record { count_bound = c.requires; piece_in_bounds = omega (arith, size, all_clear.held_within) }
+    record { two_at_most = c.requires; frame_room = omega (arith, size, all_clear.held_within) }
 
 pub returns-then-not-waits : goal.returns-then-not-waits
 unfolding send_tests output_short in_range
@@ -124,7 +124,7 @@ move_reply-moved-requires c =
     let room : c.args.session.held + length bytes ≤ length c.args.output.now =
     fits-within _ _ _ fitting all_clear.held_within in
     let same : length c.put_frame-behind.new.output ≡ length c.args.output.now = ap length c.put_frame-behind.ensures.1 ∙ simp length-laid in
-    record { length_bound = reply_short c.args.session all_clear.in_range_lem; held_in_bounds = omega (arith, same, c.put_frame-behind.ensures.0, room) }
+    record { reply_short = reply_short c.args.session all_clear.in_range_lem; held_within = omega (arith, same, c.put_frame-behind.ensures.0, room) }
 
 pub returns : goal.returns
 unfolding send_tests output_short in_range
