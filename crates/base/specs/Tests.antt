@@ -1,5 +1,5 @@
 -- Numbers that are given by tests, in order.
-use Rattle.std.specs.Prelude.{Bool, true, false, not, List, [], ◌∷◌, ℕ}
+use Rattle.std.specs.Prelude.{Bool, true, false, List, [], ◌∷◌, ℕ}
 use Rattle.base.specs.Table.{pick}
 
 abbrev pub both : Bool → Bool → Bool

@@ -1,1 +1,3 @@
+#![tactic(auto)]
+
 // No function: what the other crates say and prove in common. The definitions are in specs/, their laws in proofs/.

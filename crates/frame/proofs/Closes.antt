@@ -1,6 +1,6 @@
 -- Laws of close payloads.
 use mathlib.Core.Path.{◌≡◌, refl, ap, ◌∙◌}
-use mathlib.Core.List.{List, [], ◌∷◌, ◌++◌}
+use mathlib.Core.List.{List, [], ◌∷◌}
 use Prim.Native.Nat.{ℕ, ◌+◌, ◌*◌, ◌<◌, ◌≤◌}
 use native.Mathlib.Omega.{arith}
 use lib.ListN.{length, get_or, drop}
@@ -8,7 +8,6 @@ use Rattle.base.specs.Bytes.{from_big, to_big}
 use Rattle.base.specs.Stores.{laid}
 use Rattle.base.proofs.Bytes.{length-to_big, from_big-to_big}
 use Rattle.base.proofs.Stores.{laid-append}
-use Rattle.frame.specs.declared.close.ClosePayload.{ClosePayload}
 use Rattle.frame.specs.declared.close.ClosePayload.TheVariants.{Empty, OneByte, CodeAndReason}
 use Rattle.frame.specs.Close.{close_of, close_bytes}
 

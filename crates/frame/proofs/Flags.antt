@@ -1,6 +1,6 @@
 -- The bits of a header's first two bytes: what is joined is a sum, and splits again into its parts. Each is a test that is computed at
 -- every value of the flags and of the number beside them.
-use mathlib.Core.Path.{◌≡◌, ap, ◌∙◌}
+use mathlib.Core.Path.{◌≡◌}
 use mathlib.Core.Bool.{Bool}
 use Prim.Native.Nat.{ℕ, ◌+◌, ◌%◌, ◌<◌}
 use native.Mathlib.Nat.{mod-lt, zero-lt-suc}
@@ -8,7 +8,7 @@ use native.Mathlib.Omega.{arith}
 use lib.Bits.{bit_or}
 use lib.Dec.{T, eqb, eqb→eq}
 use Rattle.base.specs.Table.{pick}
-use Rattle.base.proofs.Range.{both, both_left, both_right, same, same_eq, all_from, in_range, at_both, at_bool}
+use Rattle.base.proofs.Range.{same, same_eq, all_from, in_range, at_both, at_bool}
 use Rattle.coding.specs.Opcodes.{opcode_of, opcode_number}
 use Rattle.frame.specs.declared.bits.First.{First}
 use Rattle.frame.specs.declared.bits.Second.{Second}

@@ -1,21 +1,18 @@
 -- Laws of whole headers: their size, when one is whole, and that what is written reads back.
-use mathlib.Core.Path.{◌≡◌, refl, sym, ap, ◌∙◌}
+use mathlib.Core.Path.{◌≡◌, refl}
 use mathlib.Core.Bool.{Bool, true, false}
-use mathlib.Core.List.{List, [], ◌∷◌, ◌++◌}
-use Prim.Native.Nat.{ℕ, suc, ◌+◌, ◌-◌, ◌%◌, ◌<◌, ◌≤◌}
-use native.Mathlib.Numerals.{towards_suc}
+use mathlib.Core.List.{List, []}
+use Prim.Native.Nat.{ℕ, suc, ◌+◌, ◌-◌, ◌<◌, ◌≤◌}
 use native.Mathlib.Omega.{arith}
-use lib.Dec.{leb, eqb}
+use lib.Dec.{leb}
 use lib.ListN.{length, get_or, set, length-append}
 use borrow.Author.Tests.{le-leb, lt-leb, eq-eqb, ne_eqb, leb-true}
 use Rattle.base.specs.Bytes.{part}
 use Rattle.base.specs.Stores.{laid}
-use Rattle.base.specs.Table.{pick, value_at}
-use Rattle.base.proofs.Bytes.{length-to_big, part-four}
+use Rattle.base.specs.Table.{pick}
+use Rattle.base.proofs.Bytes.{length-to_big}
 use Rattle.base.proofs.Stores.{laid-append}
-use Rattle.base.proofs.Table.{at_range}
 use Rattle.frame.specs.declared.header.FrameHeader.{FrameHeader}
-use Rattle.frame.specs.declared.header.Parsed.{Parsed}
 use Rattle.frame.specs.declared.header.Parsed.TheVariants.{Lacking, Whole}
 use Rattle.frame.specs.Header.{second_of, extra_bytes, size_by, missing, header_of, parsed, no_mask, mask_in, length_code, length_bytes, flags, first_byte, second_byte, header_bytes, plain_size, header_size}
 use Rattle.frame.proofs.Lengths.{Form, short, middle, long, form, bytes_short, bytes_middle, bytes_long, size_short, size_middle, size_long}

@@ -1,16 +1,16 @@
 -- Laws of a payload's length in its three forms.
-use mathlib.Core.Path.{◌≡◌, refl, sym, ap, ◌∙◌}
+use mathlib.Core.Path.{◌≡◌, refl, ◌∙◌}
 use mathlib.Core.Bool.{Bool, true, false}
 use mathlib.Core.List.{List, [], ◌∷◌, ◌++◌}
-use Prim.Native.Nat.{ℕ, ◌+◌, ◌%◌, ◌^◌, ◌<◌, ◌≤◌}
+use Prim.Native.Nat.{ℕ, ◌<◌, ◌≤◌}
 use native.Mathlib.Omega.{arith}
 use lib.Dec.{leb}
 use lib.ListN.{length, take, drop}
 use borrow.Author.Tests.{le-leb, lt-leb, leb-true, leb-false}
-use Rattle.base.specs.Bytes.{part, from_big, to_big}
+use Rattle.base.specs.Bytes.{to_big}
 use Rattle.base.specs.Table.{pick, within, value_at}
 use Rattle.base.proofs.Bytes.{length-to_big, from_big-to_big, part-between}
-use Rattle.base.proofs.Table.{at_range, skip, no_row}
+use Rattle.base.proofs.Table.{skip, no_row}
 use Rattle.frame.specs.Header.{extra_bytes, length_of, length_code, length_bytes, plain_size}
 
 -- ---- reading

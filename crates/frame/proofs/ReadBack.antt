@@ -3,7 +3,7 @@
 use mathlib.Core.Path.{◌≡◌, refl, sym, ap, ◌∙◌}
 use mathlib.Core.Bool.{Bool, true, false}
 use mathlib.Core.List.{List, [], ◌∷◌, ◌++◌, append_assoc}
-use Prim.Native.Nat.{ℕ, suc, ◌+◌, ◌-◌, ◌%◌, ◌<◌, ◌≤◌}
+use Prim.Native.Nat.{ℕ, ◌+◌, ◌-◌, ◌%◌, ◌<◌, ◌≤◌}
 use native.Mathlib.Omega.{arith}
 use lib.Dec.{leb}
 use borrow.Author.Tests.{leb-true, leb-false}
@@ -13,11 +13,10 @@ use Rattle.base.specs.Bytes.{part}
 use Rattle.base.specs.Table.{pick}
 use Rattle.base.proofs.Bytes.{part-between}
 use Rattle.coding.specs.Opcodes.{opcode_of, opcode_number}
-use Rattle.frame.specs.declared.bits.First.{First}
 use Rattle.frame.specs.declared.bits.Second.{Second}
 use Rattle.frame.specs.declared.header.FrameHeader.{FrameHeader}
 use Rattle.frame.specs.declared.header.Parsed.TheVariants.{Lacking, Whole}
-use Rattle.frame.specs.Header.{first_of, second_of, extra_bytes, length_of, size_by, missing, header, header_of, parsed, no_mask, mask_in, length_code, length_bytes, flags, first_byte, second_byte, header_bytes, header_size}
+use Rattle.frame.specs.Header.{first_of, second_of, length_of, size_by, missing, header, header_of, parsed, no_mask, mask_in, length_code, length_bytes, flags, first_byte, second_byte, header_bytes, header_size}
 use Rattle.frame.proofs.Flags.{split_joined_first, split_joined_second}
 use Rattle.frame.proofs.Lengths.{code_most, extra_written, length-read_back}
 use Rattle.frame.proofs.Headers.{size_split, missing-early, missing-later, parsed-lacking, parsed-whole, mask_none, mask_there, length-header_bytes}

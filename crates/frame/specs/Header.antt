@@ -1,5 +1,5 @@
 -- Frame headers (RFC 6455, 5.2; document 01, "Frame header"). h stands for the bytes of a stream from a frame's first byte on.
-use Rattle.std.specs.Prelude.{Bool, true, false, not, List, [], ◌∷◌, ◌++◌, ℕ, ◌+◌, ◌-◌, ◌%◌, leb, eqb, length, get_or}
+use Rattle.std.specs.Prelude.{Bool, not, List, [], ◌∷◌, ◌++◌, ℕ, ◌+◌, ◌-◌, ◌%◌, leb, eqb, length, get_or}
 use Rattle.std.specs.Int.Bits.{bit_and}
 use Rattle.base.specs.Bytes.{part, from_big, to_big}
 use Rattle.base.specs.Table.{pick, ◌to◌is◌, value_at}

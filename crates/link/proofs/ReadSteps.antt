@@ -3,7 +3,7 @@
 use mathlib.Core.Path.{◌≡◌, refl, sym, ap, ap₂, subst, ◌∙◌}
 use mathlib.Core.Bool.{Bool, true, false}
 use mathlib.Core.List.{List, [], ◌∷◌, ◌++◌, append_assoc, append-nil, nil≢cons}
-use Prim.Native.Nat.{ℕ, ◌+◌, ◌≤◌}
+use Prim.Native.Nat.{ℕ, ◌≤◌}
 use lib.Dec.{eqb}
 use lib.ListN.{length, take, drop, take-append-drop, drop_of_length-le}
 use lib.Seq.{drop-append_seam}
@@ -30,7 +30,7 @@ use Rattle.steady.proofs.Frames.{FineWorld}
 use Rattle.steady.proofs.InRangeStays.{fed, fed-fine}
 use Rattle.link.specs.System.{Item, End, Side, ended, counted, is_closed, reader, read_from}
 use Rattle.link.proofs.Direction.{Phase, active, byUs, byPeer, acked, over, number, is_over, over_number, Link, Heard, load_of, Sound, Knows, knows_on, all_on, Kept, held_of, Reader, Dir, Fin, Inv}
-use Rattle.link.proofs.FrameRead.{spot_between, Within, Ends, Came, within, ends, spot_whole, came, came_none, feed-open}
+use Rattle.link.proofs.FrameRead.{spot_between, Within, Ends, Came, within, spot_whole, came, came_none, feed-open}
 use Rattle.link.proofs.Frames.{Frame, wires, nothing, items_of, told, told_on, one_told, Valid, AllValid, valid_front, valid_behind, closes, has_close, one_close, close_append, CloseLast, close_ends}
 
 -- ---- small facts

@@ -1,2 +1,4 @@
+#![tactic(auto)]
+
 // The theorem about captures: what the steps hand out is the listing. It has no function; its statements and proofs are in specs/ and
 // proofs/.

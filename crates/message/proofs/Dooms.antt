@@ -1,13 +1,12 @@
 -- The number that a header and the session decide, by the frame's kind.
 use mathlib.Core.Path.{◌≡◌, refl, sym, ap, ◌∙◌}
 use mathlib.Core.Bool.{Bool, true, false, not}
-use mathlib.Core.List.{List, [], ◌∷◌, ◌++◌}
+use mathlib.Core.List.{List, [], ◌∷◌}
 use Prim.Native.Nat.{ℕ, ◌+◌, ◌≤◌}
 use native.Mathlib.Omega.{arith}
 use lib.Dec.{eqb, ltb}
 use borrow.Author.Rules.{rules}
 use borrow.Author.Tests.{ltb-false, eqb-true, eqb-false}
-use Rattle.base.specs.Table.{pick}
 use Rattle.base.specs.Tests.{both, either, Test, ◌when◌, first_of}
 use Rattle.base.proofs.Tests.{first_stop, first_pass, first_clear}
 use Rattle.coding.specs.declared.opcode.Control.{Control as ControlKind}

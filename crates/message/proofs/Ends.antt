@@ -1,15 +1,15 @@
 -- The frame's last byte: its number by the tests in order, and what its end leaves.
 use mathlib.Core.Path.{◌≡◌, refl, sym, ap, ◌∙◌}
 use mathlib.Core.Bool.{Bool, true, false, not}
-use mathlib.Core.List.{List, [], ◌∷◌, ◌++◌}
+use mathlib.Core.List.{List, [], ◌∷◌}
 use Prim.Native.Nat.{ℕ, ◌+◌, ◌<◌, ◌≤◌}
 use native.Mathlib.Omega.{arith}
-use lib.Dec.{eqb, leb}
+use lib.Dec.{eqb}
 use lib.ListN.{length, take}
 use borrow.Author.Rules.{rules}
 use borrow.Author.Tests.{eq-eqb, ne_eqb, eqb-true, eqb-false, lt-leb, le-leb}
 use Rattle.base.specs.Table.{pick}
-use Rattle.base.specs.Tests.{both, either, Test, ◌when◌, first_of}
+use Rattle.base.specs.Tests.{either, first_of}
 use Rattle.base.proofs.Choice.{by_test}
 use Rattle.base.proofs.Tests.{first_stop, first_pass}
 use Rattle.coding.specs.declared.opcode.Control.{Control as ControlKind}

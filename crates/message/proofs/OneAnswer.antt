@@ -1,8 +1,7 @@
 -- Any two results that meet the promise are equal, for each public function.
-use mathlib.Core.Path.{◌≡◌, sym, ap, ◌∙◌}
-use Prim.Native.Nat.{ℕ}
+use mathlib.Core.Path.{sym, ap, ◌∙◌}
 use Rattle.base.proofs.Promise.{OneAnswer, OneStore}
-use Rattle.session.specs.Reading.{World, At}
+use Rattle.session.specs.Reading.{At}
 use Rattle.message.proofs.pump.is_more.Kinds as is_more_lem
 use Rattle.message.proofs.pump.is_more.Reads as is-more-reads
 use Rattle.message.proofs.pump.take_bytes.Kinds as take-bytes

@@ -3,10 +3,8 @@ use mathlib.Core.Path.{◌≡◌, refl, sym, ap, ap₂, ◌∙◌}
 use mathlib.Core.Bool.{Bool, true, false}
 use mathlib.Core.List.{List, [], ◌∷◌, ◌++◌}
 use Prim.Native.Nat.{ℕ, suc, ◌+◌, ◌<◌, ◌≤◌}
-use native.Mathlib.Nat.{add_assoc}
-use native.Mathlib.Numerals.{add-one}
 use native.Mathlib.Omega.{arith}
-use lib.Dec.{eqb, leb, ltb}
+use lib.Dec.{eqb, ltb}
 use lib.ListN.{length}
 use borrow.Author.Tests.{lt-leb, lt-ltb, eq-eqb, ne_eqb}
 use Rattle.base.specs.Bytes.{part}
@@ -22,7 +20,7 @@ use Rattle.session.specs.declared.Answer.TheVariants.{More}
 use Rattle.session.specs.declared.Incoming.{Incoming}
 use Rattle.session.specs.declared.Settings.{Settings}
 use Rattle.session.specs.Frames.{kept, header_whole, frame, is_control, is_text, before, progress_now, doom_tests, doom}
-use Rattle.session.specs.Reading.{World, world, At, after, plain, counts, stored, finish, rest, byte_in, is_more, step, feed}
+use Rattle.session.specs.Reading.{World, world, after, plain, counts, stored, rest, byte_in, step, feed}
 use Rattle.utf8.specs.Progress.{progress_after}
 use Rattle.utf8.proofs.Laws.{progress_append}
 use Rattle.base.proofs.Choice.{by_test}

@@ -1,6 +1,5 @@
 -- A sum over a limit, tested by a difference.
 use mathlib.Core.Path.{◌≡◌}
-use mathlib.Core.Bool.{true, false}
 use Prim.Native.Nat.{ℕ, ◌+◌, ◌-◌, ◌≤◌}
 use native.Mathlib.Omega.{arith}
 use lib.Dec.{ltb}

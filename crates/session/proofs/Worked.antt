@@ -1,19 +1,18 @@
 -- Document 01's worked sessions, the starred ones among them, as one table with one claim: each row is computed from the definitions.
 use mathlib.Core.Bool.{Bool, true, false}
-use mathlib.Core.List.{List, [], ◌∷◌, ◌++◌}
+use mathlib.Core.List.{List, [], ◌∷◌}
 use Prim.Native.Nat.{ℕ}
 use lib.Dec.{T, eqb}
 use lib.ListN.{take, replicate}
 use Rattle.base.specs.Bytes.{part, from_big, to_big}
 use Rattle.base.specs.Stores.{laid}
-use Rattle.base.specs.Table.{pick, value_at}
+use Rattle.base.specs.Table.{value_at}
 use Rattle.base.specs.Tests.{both, first_of}
 use Rattle.coding.specs.CloseCodes.{allowed}
-use Rattle.coding.specs.Opcodes.{opcode_of, opcode_number}
+use Rattle.coding.specs.Opcodes.{opcode_of}
 use Rattle.frame.specs.Close.{close_of, close_bytes, violation}
 use Rattle.frame.specs.Header.{first_of as firstByteOf, second_of, extra_bytes, length_of, size_by, missing, header_of, mask_in, length_code, length_bytes, first_byte, second_byte, header_bytes}
 use Rattle.mask.specs.Mask.{masked}
-use Rattle.session.specs.declared.Masks.{Masks}
 use Rattle.session.specs.declared.Session.{Session}
 use Rattle.session.specs.Answers.{kind, value, shown}
 use Rattle.session.specs.Calls.{no_incoming, empty_reply, fresh, Read, output_short, stores_short, read_tests, flagged, take_bytes, read_on, read_call}

@@ -1,16 +1,16 @@
 -- Every call of document 01 as a function on values: one answer, one session and one content of every store.
-use Rattle.std.specs.Prelude.{Bool, true, false, not, List, [], ◌∷◌, ℕ, ◌+◌, ◌-◌, eqb, leb, ltb, length, take, drop, replicate}
+use Rattle.std.specs.Prelude.{Bool, false, not, List, [], ◌∷◌, ℕ, ◌-◌, eqb, ltb, length, take, drop, replicate}
 use Rattle.base.specs.Bytes.{part}
 use Rattle.base.specs.Stores.{laid}
 use Rattle.base.specs.Table.{pick}
 use Rattle.base.specs.Tests.{both, either, Test, ◌when◌, first_of}
-use Rattle.coding.specs.declared.opcode.Control.TheVariants.{Close as CloseFrame, Ping as PingFrame, Pong as PongFrame}
+use Rattle.coding.specs.declared.opcode.Control.TheVariants.{Close as CloseFrame, Ping as PingFrame}
 use Rattle.coding.specs.declared.opcode.Data.TheVariants.{Text as TextFrame, Binary as BinaryFrame}
 use Rattle.coding.specs.declared.opcode.OpCode.{OpCode}
 use Rattle.coding.specs.declared.opcode.OpCode.TheVariants.{Data, Control}
 use Rattle.frame.specs.Close.{close_bytes}
 use Rattle.session.specs.declared.Answer.{Answer}
-use Rattle.session.specs.declared.Answer.TheVariants.{More, Text, Binary, Ping, Pong, Close, Closed, Refused}
+use Rattle.session.specs.declared.Answer.TheVariants.{More, Closed, Refused}
 use Rattle.session.specs.declared.Closing.{Closing}
 use Rattle.session.specs.declared.Closing.TheVariants.{Empty, Code}
 use Rattle.session.specs.declared.Handed.{Handed}
@@ -26,7 +26,7 @@ use Rattle.session.specs.declared.Settings.{Settings}
 use Rattle.session.specs.declared.Turn.{Turn}
 use Rattle.session.specs.declared.Waiting.TheVariants.{Nothing}
 use Rattle.session.specs.Range.{limits_hold, in_range, waits}
-use Rattle.session.specs.Reading.{World, world, At, after, settle, feed, is_more}
+use Rattle.session.specs.Reading.{world, At, after, settle, feed, is_more}
 use Rattle.session.specs.Replies.{encoded, fits, is_close_reply, reply_frame, with_pong, Out, appended, move_reply, Concluded, conclude}
 use Rattle.session.specs.Session.{is_server, is_client, is_active, is_peer_closed, is_terminated, with_state, with_incoming, with_reply, with_held}
 use Rattle.utf8.specs.Progress.{progress_after, is_whole}

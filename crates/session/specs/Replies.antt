@@ -1,5 +1,5 @@
 -- The waiting reply and closing (document 01, "Replies and closing"), and putting out (document 01, "Sending").
-use Rattle.std.specs.Prelude.{Bool, true, false, not, List, [], ◌∷◌, ◌++◌, ℕ, ◌+◌, ◌-◌, eqb, ltb, leb, length, take}
+use Rattle.std.specs.Prelude.{Bool, true, false, List, ◌++◌, ℕ, ◌+◌, ◌-◌, leb, length, take}
 use Rattle.base.specs.Stores.{laid}
 use Rattle.base.specs.Table.{pick}
 use Rattle.base.specs.Tests.{both}
@@ -20,7 +20,7 @@ use Rattle.session.specs.declared.Session.{Session}
 use Rattle.session.specs.declared.Waiting.{Waiting}
 use Rattle.session.specs.declared.Waiting.TheVariants.{Nothing as NoReply, Pong as PongReply, Close as CloseReply}
 use Rattle.session.specs.Range.{waits}
-use Rattle.session.specs.Session.{is_server, is_client, is_active, is_closed_by_us, with_state, with_refusal, with_reply, with_held}
+use Rattle.session.specs.Session.{is_client, is_active, is_closed_by_us, with_state, with_refusal, with_reply, with_held}
 
 -- ---- a frame's bytes: final, no reserved bit; "Client frames are" masked, "A server ignores" the masks
 unfoldable pub frame_header : Bool → OpCode → ℕ → FrameHeader

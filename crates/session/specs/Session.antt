@@ -1,5 +1,5 @@
 -- The session's words (document 01, "The session"): roles, states, and a session with a part replaced.
-use Rattle.std.specs.Prelude.{Bool, List, ℕ, eqb}
+use Rattle.std.specs.Prelude.{Bool, ℕ, eqb}
 use Rattle.base.specs.Tests.{either}
 use Rattle.session.specs.declared.Incoming.{Incoming}
 use Rattle.session.specs.declared.Reply.{Reply}

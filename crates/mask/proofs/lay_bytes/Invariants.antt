@@ -1,14 +1,10 @@
 -- `mask::lay_bytes` meets its contract. The loop's invariant: the first i bytes of the masked piece are laid over the store, and the
 -- phase is that of the payload's byte position + i.
 use mathlib.Core.Path.{◌≡◌}
-use Prim.Native.Nat.{◌<◌, ◌≤◌, ◌+◌, ◌-◌, ◌%◌}
-use native.Mathlib.Omega.{arith}
-use lib.ListN.{length, take, length-set}
-use borrow.Author.Rules.{rules}
+use Prim.Native.Nat.{◌≤◌, ◌+◌, ◌-◌, ◌%◌}
+use lib.ListN.{length, take}
 use Rattle.base.specs.Stores.{laid}
-use Rattle.base.proofs.Stores.{laid_none, laid_more, laid-all}
 use Rattle.mask.specs.Mask.{masked}
-use Rattle.mask.proofs.Laws.{length-masked, masked-at}
 use Rattle.mask.proofs.lay_bytes.Given as goal
 
 abbrev pub invariant-loop-i : goal.invariant-loop-i

@@ -1,5 +1,4 @@
 -- `stores::put` meets its contract, with a mask and without.
-use borrow.Author.Rules.{rules}
 use Rattle.stores.proofs.put.Goals as goal
 
 pub returns-then-masking : goal.returns-then-masking

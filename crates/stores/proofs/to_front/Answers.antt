@@ -1,10 +1,8 @@
 -- `stores::to_front` meets its contract. The loop's invariant: the first `moved` bytes of what is kept are laid over the front.
-use mathlib.Core.Path.{◌≡◌, refl}
-use Prim.Native.Nat.{◌≤◌, ◌-◌}
+use mathlib.Core.Path.{refl}
+use Prim.Native.Nat.{◌-◌}
 use native.Mathlib.Omega.{arith}
-use lib.ListN.{length, take, length-set}
-use Rattle.base.specs.Bytes.{part}
-use Rattle.base.specs.Stores.{laid}
+use lib.ListN.{length-set}
 use Rattle.base.proofs.Bytes.{length_part}
 use Rattle.base.proofs.Stores.{laid_none, laid-all}
 use Rattle.stores.proofs.Moves.{moved_more}

@@ -1,13 +1,9 @@
 -- `stores::to_front` meets its contract. The loop's invariant: the first `moved` bytes of what is kept are laid over the front.
-use mathlib.Core.Path.{◌≡◌, refl}
+use mathlib.Core.Path.{◌≡◌}
 use Prim.Native.Nat.{◌≤◌, ◌-◌}
-use native.Mathlib.Omega.{arith}
-use lib.ListN.{length, take, length-set}
+use lib.ListN.{length, take}
 use Rattle.base.specs.Bytes.{part}
 use Rattle.base.specs.Stores.{laid}
-use Rattle.base.proofs.Bytes.{length_part}
-use Rattle.base.proofs.Stores.{laid_none, laid-all}
-use Rattle.stores.proofs.Moves.{moved_more}
 use Rattle.stores.proofs.to_front.Given as goal
 
 abbrev pub invariant-loop-moved : goal.invariant-loop-moved

@@ -1,9 +1,7 @@
 -- `utf8::scan` meets its contract. The loop keeps `Left`: what it has still to find. The measure is what is left of the piece.
 use Prim.Native.Nat.{◌-◌}
-use native.Mathlib.Omega.{arith}
 use lib.ListN.{length}
-use borrow.Author.Rules.{rules}
-use Rattle.utf8.proofs.Loop.{Left, left_begins, left_on, left_ends, left_stops}
+use Rattle.utf8.proofs.Loop.{Left}
 use Rattle.utf8.proofs.scan.Given as goal
 
 abbrev pub invariant-loop-i : goal.invariant-loop-i

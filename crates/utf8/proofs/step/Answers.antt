@@ -1,8 +1,6 @@
 -- `utf8::step` meets its contract: each arm asks the rows of its progress.
-use mathlib.Core.Path.{◌≡◌, sym, ◌∙◌}
-use Prim.Native.Nat.{ℕ, suc, ◌≤◌}
+use mathlib.Core.Path.{sym, ◌∙◌}
 use native.Mathlib.Omega.{arith}
-use borrow.Author.Rules.{rules}
 use Rattle.utf8.specs.Progress.{stepped}
 use Rattle.utf8.proofs.Laws.{step-out}
 use Rattle.utf8.proofs.step.Goals as goal

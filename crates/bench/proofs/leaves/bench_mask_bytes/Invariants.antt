@@ -1,5 +1,5 @@
 -- `bench::leaves::bench_mask_bytes` is safe and ends: the measure is what is left of the piece. Assumes nothing.
-use Rattle.std.proofs.Common.{◌≡◌, ◌-◌, ◌<◌, ◌≤◌, length, refl, arith, length-set, rules}
+use Rattle.std.proofs.Common.{◌≡◌, ◌-◌, ◌<◌, ◌≤◌, length}
 use Rattle.bench.proofs.leaves.bench_mask_bytes.Given as goal
 
 abbrev pub invariant-loop-i : goal.invariant-loop-i

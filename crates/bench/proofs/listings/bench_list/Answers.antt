@@ -1,5 +1,5 @@
 -- `bench::listings::bench_list` is safe and ends: the measure is the number of turns that are left. Assumes nothing.
-use Rattle.std.proofs.Common.{◌≡◌, length, refl, ◌∙◌, rules}
+use Rattle.std.proofs.Common.{refl, ◌∙◌}
 use Rattle.bench.proofs.listings.bench_list.Goals as goal
 
 pub loop-turns-init : goal.loop-turns-init

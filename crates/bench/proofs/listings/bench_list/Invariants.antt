@@ -1,5 +1,5 @@
 -- `bench::listings::bench_list` is safe and ends: the measure is the number of turns that are left. Assumes nothing.
-use Rattle.std.proofs.Common.{◌≡◌, length, refl, ◌∙◌, rules}
+use Rattle.std.proofs.Common.{◌≡◌, length}
 use Rattle.bench.proofs.listings.bench_list.Given as goal
 
 abbrev pub invariant-loop-turns : goal.invariant-loop-turns

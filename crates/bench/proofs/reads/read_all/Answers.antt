@@ -1,5 +1,5 @@
 -- `bench::reads::read_all` is safe and ends: the measure is what is left of the stream. Assumes nothing.
-use Rattle.std.proofs.Common.{◌≡◌, ◌-◌, ◌≤◌, length, refl, ◌∙◌, arith, rules}
+use Rattle.std.proofs.Common.{refl, ◌∙◌, arith}
 use Rattle.bench.proofs.reads.read_all.Goals as goal
 
 pub loop-at-init : goal.loop-at-init

@@ -1,5 +1,5 @@
 -- `bench::sends::bench_text` is safe and ends: the measure is what is left to send. Assumes nothing.
-use Rattle.std.proofs.Common.{◌≡◌, ◌-◌, length, refl, ◌∙◌, arith, rules}
+use Rattle.std.proofs.Common.{refl, ◌∙◌, arith}
 use Rattle.bench.proofs.sends.bench_text.Goals as goal
 
 pub loop-at-init : goal.loop-at-init

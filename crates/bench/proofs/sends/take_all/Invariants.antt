@@ -1,5 +1,5 @@
 -- `bench::sends::take_all` is safe and ends: the measure is what is left to take. Assumes nothing.
-use Rattle.std.proofs.Common.{◌≡◌, length, refl, ◌∙◌, arith, rules}
+use Rattle.std.proofs.Common.{◌≡◌, length}
 use Rattle.bench.proofs.sends.take_all.Given as goal
 
 abbrev pub invariant-loop-left : goal.invariant-loop-left

@@ -1,6 +1,5 @@
 -- `capture::place::file_onward` meets its contract.
 use mathlib.Core.Path.{ap}
-use borrow.Author.Rules.{rules}
 use Rattle.capture.specs.Places.{file_place, file_onward}
 use Rattle.capture.proofs.place.file_onward.Goals as goal
 

@@ -1,6 +1,5 @@
 -- `capture::place::stream_onward` meets its contract.
 use mathlib.Core.Path.{ap}
-use borrow.Author.Rules.{rules}
 use Rattle.capture.specs.Places.{stream_place, stream_onward}
 use Rattle.capture.proofs.place.stream_onward.Goals as goal
 

@@ -1,6 +1,5 @@
 -- `capture::place::sum` meets its contract.
 use native.Mathlib.Omega.{arith}
-use borrow.Author.Rules.{rules}
 use Rattle.capture.proofs.Finding.{onward-most, onward-sum}
 use Rattle.capture.proofs.place.sum.Goals as goal
 

@@ -1,5 +1,4 @@
 -- `capture::record::by_mark` meets its contract, mark by mark.
-use borrow.Author.Rules.{rules}
 use Rattle.capture.proofs.record.by_mark.Goals as goal
 
 pub returns-in-Input : goal.returns-in-Input

@@ -1,6 +1,5 @@
 -- `capture::record::find` meets its contract: a mark cut short, or what it names.
 use mathlib.Core.Path.{ap, ◌∙◌}
-use borrow.Author.Rules.{rules}
 use Rattle.capture.specs.declared.record.Mark.{Mark}
 use Rattle.capture.specs.Records.{by_mark}
 use Rattle.capture.proofs.Finding.{found_markless, found_marked}

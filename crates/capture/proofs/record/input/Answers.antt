@@ -3,7 +3,6 @@ use mathlib.Core.Path.{◌≡◌, ap₂}
 use Prim.Native.Nat.{ℕ, ◌+◌, ◌*◌, ◌≤◌}
 use native.Mathlib.Omega.{arith}
 use lib.ListN.{length, get_or}
-use borrow.Author.Rules.{rules}
 use Rattle.capture.proofs.Finding.{input_headless, input_cut, input_whole}
 use Rattle.capture.proofs.record.input.Goals as goal
 

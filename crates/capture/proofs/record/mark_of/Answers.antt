@@ -1,6 +1,5 @@
 -- `capture::record::mark_of` meets its contract, mark by mark.
 use mathlib.Core.Path.{sym, ◌∙◌}
-use borrow.Author.Rules.{rules}
 use Rattle.capture.specs.Records.{mark_of}
 use Rattle.capture.proofs.record.mark_of.Goals as goal
 

@@ -3,7 +3,6 @@ use mathlib.Core.Path.{◌≡◌, sym}
 use Prim.Native.Nat.{◌≤◌}
 use lib.ListN.{length}
 use lib.Seq.{length-take-le}
-use borrow.Author.Rules.{rules}
 use Rattle.capture.specs.Listing.{zero_masks}
 use Rattle.capture.proofs.Stepping.{call_lacking, call_within, call_made}
 use Rattle.capture.proofs.step.at_call.Goals as goal

@@ -1,6 +1,5 @@
 -- `capture::step::at_put` meets its contract.
 use native.Mathlib.Omega.{arith}
-use borrow.Author.Rules.{rules}
 use Rattle.capture.proofs.Stepping.{held_most, put_made}
 use Rattle.capture.proofs.step.at_put.Goals as goal
 

@@ -1,5 +1,4 @@
 -- `capture::step::at_role` meets its contract, by what is found.
-use borrow.Author.Rules.{rules}
 use Rattle.base.proofs.Stores.{laid_none}
 use Rattle.capture.proofs.step.at_role.Goals as goal
 

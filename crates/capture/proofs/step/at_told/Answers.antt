@@ -1,6 +1,5 @@
 -- `capture::step::at_told` meets its contract.
 use native.Mathlib.Omega.{arith}
-use borrow.Author.Rules.{rules}
 use Rattle.capture.proofs.Stepping.{part-most, told_made}
 use Rattle.capture.proofs.step.at_told.Goals as goal
 

@@ -1,5 +1,4 @@
 -- `capture::step::bad` meets its contract.
-use borrow.Author.Rules.{rules}
 use Rattle.capture.proofs.Stepping.{bad_said}
 use Rattle.capture.proofs.step.bad.Goals as goal
 

@@ -1,7 +1,6 @@
 -- `capture::step::begin` meets its contract.
 use mathlib.Core.Path.{ap}
 use mathlib.Core.Bool.{false}
-use borrow.Author.Rules.{rules}
 use Rattle.session.specs.declared.Session.{Session}
 use Rattle.capture.specs.declared.step.Due.TheVariants.{Role}
 use Rattle.capture.specs.Places.{file_place, stream_place}

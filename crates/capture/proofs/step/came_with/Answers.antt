@@ -1,5 +1,4 @@
 -- `capture::step::came_with` meets its contract, answer by answer.
-use borrow.Author.Rules.{rules}
 use Rattle.capture.proofs.step.came_with.Goals as goal
 
 pub returns-in-More : goal.returns-in-More

@@ -1,6 +1,5 @@
 -- `capture::step::in_record` meets its contract.
 use mathlib.Core.Path.{ap}
-use borrow.Author.Rules.{rules}
 use Rattle.capture.specs.declared.place.FilePlace.{FilePlace}
 use Rattle.capture.specs.declared.step.Came.TheVariants.{Line}
 use Rattle.capture.specs.declared.step.Due.TheVariants.{Call}

@@ -1,7 +1,6 @@
 -- `capture::step::in_role` meets its contract.
 use mathlib.Core.Path.{ap₂}
 use mathlib.Core.Bool.{false}
-use borrow.Author.Rules.{rules}
 use Rattle.session.specs.declared.Session.{Session}
 use Rattle.capture.specs.declared.place.FilePlace.{FilePlace}
 use Rattle.capture.specs.declared.step.Came.TheVariants.{Line}

@@ -1,6 +1,5 @@
 -- `capture::step::make` meets its contract.
 use mathlib.Core.Path.{ap}
-use borrow.Author.Rules.{rules}
 use Rattle.session.specs.declared.Handed.{Handed}
 use Rattle.capture.specs.Listing.{made}
 use Rattle.capture.proofs.step.make.Goals as goal

@@ -1,5 +1,4 @@
 -- `capture::step::put_answer` meets its contract, answer by answer.
-use borrow.Author.Rules.{rules}
 use Rattle.lines.proofs.Laws.{wrote_none}
 use Rattle.capture.proofs.step.put_answer.Goals as goal
 

@@ -1,5 +1,4 @@
 -- `capture::step::put_held` meets its contract: nothing, or a line.
-use borrow.Author.Rules.{rules}
 use Rattle.capture.proofs.Stepping.{put_none, put_some}
 use Rattle.capture.proofs.step.put_held.Goals as goal
 

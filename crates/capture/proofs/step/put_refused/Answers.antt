@@ -1,6 +1,5 @@
 -- `capture::step::put_refused` meets its contract.
 use native.Mathlib.Omega.{arith}
-use borrow.Author.Rules.{rules}
 use Rattle.lines.proofs.Laws.{length-decimal}
 use Rattle.capture.proofs.Stepping.{refused_on}
 use Rattle.capture.proofs.step.put_refused.Goals as goal

@@ -3,7 +3,6 @@ use mathlib.Core.Path.{refl, ap}
 use mathlib.Core.Bool.{not}
 use Prim.Native.Nat.{◌+◌, ◌≤◌}
 use lib.ListN.{length}
-use borrow.Author.Rules.{rules}
 use Rattle.capture.specs.declared.step.Due.TheVariants.{Role, Record, Call, Put, Told, Nothing}
 use Rattle.capture.proofs.Stepping.{room_there, step-full, step_by, step-role, step-record}
 use Rattle.capture.proofs.step.step.Goals as goal

@@ -1,12 +1,10 @@
 -- `frame::bits::join_first` meets its contract: bits that do not meet are added.
-use mathlib.Core.Path.{◌≡◌, ◌∙◌}
 use Prim.Native.Nat.{◌%◌, ◌<◌}
 use native.Mathlib.Nat.{mod-lt, zero-lt-suc}
 use lib.Bits.{and_mask}
 use Rattle.coding.specs.Opcodes.{opcode_number}
 use Rattle.frame.specs.Header.{first_byte}
 use Rattle.frame.proofs.Flags.{or_flags}
-use borrow.Author.Rules.{rules}
 use Rattle.frame.proofs.bits.join_first.Goals as goal
 
 pub returns : goal.returns

@@ -1,11 +1,9 @@
 -- `frame::bits::join_second` meets its contract: bits that do not meet are added.
-use mathlib.Core.Path.{◌≡◌, ◌∙◌}
 use Prim.Native.Nat.{◌%◌, ◌<◌}
 use native.Mathlib.Nat.{mod-lt, zero-lt-suc}
 use lib.Bits.{and_mask}
 use Rattle.frame.specs.Header.{second_byte}
 use Rattle.frame.proofs.Flags.{or_mask_flag}
-use borrow.Author.Rules.{rules}
 use Rattle.frame.proofs.bits.join_second.Goals as goal
 
 pub returns : goal.returns

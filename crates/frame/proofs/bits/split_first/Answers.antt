@@ -1,6 +1,4 @@
 -- `frame::bits::split_first` meets its contract: the flags are the code's own tests, the opcode is what `from_u8` gives.
-use mathlib.Core.Path.{◌≡◌}
-use borrow.Author.Rules.{rules}
 use Rattle.frame.specs.Header.{bit, first_of}
 use Rattle.frame.proofs.bits.split_first.Goals as goal
 

@@ -1,9 +1,8 @@
 -- `frame::close::into_close` meets its contract, by the payload's length.
-use mathlib.Core.Path.{◌≡◌, sym, ap, ◌∙◌}
+use mathlib.Core.Path.{sym}
 use Prim.Native.Nat.{◌≤◌}
 use lib.ListN.{length}
 use native.Mathlib.Omega.{arith}
-use borrow.Author.Rules.{rules}
 use Rattle.frame.proofs.Closes.{close_empty, close_one, close_code}
 use Rattle.frame.proofs.close.into_close.Goals as goal
 

@@ -1,6 +1,5 @@
 -- `frame::close::write_violation` meets its contract: a code and then a reason.
-use mathlib.Core.Path.{◌≡◌, ◌∙◌}
-use borrow.Author.Rules.{rules}
+use mathlib.Core.Path.{◌∙◌}
 use Rattle.frame.specs.Close.{violation}
 use Rattle.frame.proofs.Closes.{laid-close}
 use Rattle.frame.proofs.close.write_violation.Goals as goal

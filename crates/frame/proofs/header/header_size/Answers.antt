@@ -1,7 +1,5 @@
 -- `frame::header::header_size` meets its contract: four bytes more with a mask.
-use mathlib.Core.Path.{◌∙◌}
 use native.Mathlib.Nat.{add-zero}
-use borrow.Author.Rules.{rules}
 use Rattle.frame.specs.Header.{header_size}
 use Rattle.frame.proofs.header.header_size.Goals as goal
 

@@ -1,13 +1,12 @@
 -- `frame::header::mask_of` meets its contract.
 use mathlib.Core.Path.{◌≡◌, sym, ap, ◌∙◌}
-use mathlib.Core.Bool.{true, false}
-use Prim.Native.Nat.{◌+◌, ◌-◌, ◌≤◌}
+use mathlib.Core.Bool.{true}
+use Prim.Native.Nat.{◌-◌, ◌≤◌}
 use native.Mathlib.Omega.{arith}
 use lib.ListN.{length, get_or}
-use borrow.Author.Rules.{rules}
 use Rattle.frame.specs.declared.bits.Second.{Second}
 use Rattle.base.proofs.Bytes.{part-four}
-use Rattle.frame.specs.Header.{second_of, size_by, missing}
+use Rattle.frame.specs.Header.{second_of, missing}
 use Rattle.frame.proofs.Headers.{size_masked, whole_length, whole_size, mask_lacking, mask_none, mask_there}
 use Rattle.frame.proofs.header.mask_of.Goals as goal
 

@@ -1,9 +1,8 @@
 -- `frame::header::missing_bytes` meets its contract.
-use mathlib.Core.Path.{◌≡◌, sym}
+use mathlib.Core.Path.{sym}
 use Prim.Native.Nat.{◌≤◌}
 use native.Mathlib.Omega.{arith}
 use lib.ListN.{length}
-use borrow.Author.Rules.{rules}
 use Rattle.frame.proofs.Headers.{missing-early, missing-later}
 use Rattle.frame.proofs.header.missing_bytes.Goals as goal
 

@@ -1,12 +1,10 @@
 -- `frame::header::parse` meets its contract.
 use mathlib.Core.Path.{◌≡◌, sym, ap, ◌∙◌}
-use Prim.Native.Nat.{◌+◌, ◌≤◌}
 use native.Mathlib.Omega.{arith}
-use lib.ListN.{length, get_or}
-use borrow.Author.Rules.{rules}
+use lib.ListN.{get_or}
 use Rattle.frame.specs.declared.header.Parsed.TheVariants.{Whole}
 use Rattle.frame.specs.declared.bits.Second.{Second}
-use Rattle.frame.specs.Header.{second_of, extra_bytes, length_of, missing, header, header_of}
+use Rattle.frame.specs.Header.{length_of, missing, header, header_of}
 use Rattle.frame.proofs.Headers.{extra_within, whole_length, whole_size, parsed-lacking, parsed-whole}
 use Rattle.frame.proofs.header.parse.Goals as goal
 

@@ -1,9 +1,7 @@
 -- `frame::header::size_by` meets its contract, with a mask and without.
 use mathlib.Core.Path.{◌≡◌, sym, ap, ◌∙◌}
-use mathlib.Core.Bool.{Bool}
-use Prim.Native.Nat.{ℕ, ◌≤◌}
+use Prim.Native.Nat.{ℕ}
 use native.Mathlib.Omega.{arith}
-use borrow.Author.Rules.{rules}
 use Rattle.frame.specs.declared.bits.Second.{Second}
 use Rattle.frame.specs.Header.{second_of, extra_bytes}
 use Rattle.frame.proofs.Lengths.{extra_most}

@@ -1,11 +1,10 @@
 -- `frame::length::big_at` meets its contract. The loop's invariant: n is the number of the first i bytes of length.
 use mathlib.Core.Path.{◌≡◌, ◌∙◌}
-use Prim.Native.Nat.{◌+◌, ◌-◌, ◌^◌, ◌<◌, ◌≤◌}
+use Prim.Native.Nat.{◌+◌, ◌<◌}
 use native.Mathlib.Omega.{arith}
 use lib.Dec.{lit<}
 use lib.ListN.{length}
 use borrow.Author.Rules.{rules}
-use Rattle.base.specs.Bytes.{part, from_big}
 use Rattle.base.proofs.Bytes.{big_none, big_more, pow_more, pow_room}
 use Rattle.frame.proofs.length.big_at.Goals as goal
 

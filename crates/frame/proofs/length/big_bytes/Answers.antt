@@ -1,6 +1,5 @@
 -- `frame::length::big_bytes` meets its contract, byte by byte.
 use native.Mathlib.Nat.{div-one}
-use borrow.Author.Rules.{rules}
 use Rattle.base.specs.Bytes.{to_big}
 use Rattle.frame.proofs.length.big_bytes.Goals as goal
 

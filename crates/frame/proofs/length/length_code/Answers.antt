@@ -1,6 +1,5 @@
 -- `frame::length::length_code` meets its contract, form by form.
 use mathlib.Core.Path.{sym}
-use borrow.Author.Rules.{rules}
 use Rattle.frame.proofs.Lengths.{code_short, code_middle, code_long}
 use Rattle.frame.proofs.length.length_code.Goals as goal
 

@@ -1,7 +1,6 @@
 -- `frame::length::length_of` meets its contract, arm by arm.
-use mathlib.Core.Path.{sym, ap, ◌∙◌}
+use mathlib.Core.Path.{sym, ◌∙◌}
 use native.Mathlib.Omega.{arith}
-use borrow.Author.Rules.{rules}
 use Rattle.base.specs.Table.{value_at}
 use Rattle.frame.specs.Header.{extra_bytes, length_of}
 use Rattle.frame.proofs.Lengths.{length-other}

@@ -1,9 +1,8 @@
 -- `frame::length::write_length` meets its contract, form by form.
-use mathlib.Core.Path.{◌≡◌, sym, ap, ◌∙◌}
-use mathlib.Core.List.{List, []}
+use mathlib.Core.Path.{◌≡◌, sym, ◌∙◌}
+use mathlib.Core.List.{[]}
 use lib.ListN.{length, take, drop}
 use borrow.Author.Rules.{rules}
-use Rattle.base.specs.Stores.{laid}
 use Rattle.base.proofs.Bytes.{length-to_big}
 use Rattle.base.proofs.Stores.{laid_none}
 use Rattle.frame.specs.Header.{length_bytes}

@@ -1,6 +1,5 @@
 -- `lines::line::put_at_place` meets its contract.
 use native.Mathlib.Omega.{arith}
-use borrow.Author.Rules.{rules}
 use Rattle.lines.proofs.Laws.{length-decimal, at_place_on}
 use Rattle.lines.proofs.line.put_at_place.Goals as goal
 

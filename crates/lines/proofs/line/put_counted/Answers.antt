@@ -1,7 +1,6 @@
 -- `lines::line::put_counted` meets its contract.
 use native.Mathlib.Omega.{arith}
 use lib.ListN.{length}
-use borrow.Author.Rules.{rules}
 use Rattle.lines.proofs.Laws.{length-decimal, length-shown, counted-on}
 use Rattle.lines.proofs.line.put_counted.Goals as goal
 

@@ -1,5 +1,4 @@
 -- `lines::line::put_shown` meets its contract.
-use borrow.Author.Rules.{rules}
 use Rattle.lines.proofs.Laws.{shown-none, shown-on}
 use Rattle.lines.proofs.line.put_shown.Goals as goal
 

@@ -1,5 +1,3 @@
-use Rattle.std.proofs.Common.{◌≡◌, ◌∷◌, [], ◌+◌, ◌≤◌, ◌<◌, length, ℕ, ◌-◌, ◌*◌}
-use Rattle.lines.specs.Text.{Wrote, digit_of, decimal, decimal_in, hex}
 use Rattle.lines.proofs.number.+put_digits.Given as goal
 
 -- proposed from what the function passes where it calls itself

@@ -1,6 +1,5 @@
 -- `lines::number::digit` meets its contract.
 use mathlib.Core.Path.{refl}
-use borrow.Author.Rules.{rules}
 use borrow.Author.Tests.{lt-ltb, le-ltb}
 use Rattle.lines.specs.Text.{digit_of}
 use Rattle.lines.proofs.number.digit.Goals as goal

@@ -1,6 +1,5 @@
 -- `lines::number::put_byte` meets its contract.
 use mathlib.Core.Path.{refl}
-use borrow.Author.Rules.{rules}
 use Rattle.base.specs.Stores.{laid}
 use Rattle.lines.proofs.number.put_byte.Goals as goal
 

@@ -1,5 +1,4 @@
 -- `lines::number::put_decimal` meets its contract.
-use borrow.Author.Rules.{rules}
 use Rattle.lines.proofs.Laws.{decimal-on}
 use Rattle.lines.proofs.number.put_decimal.Goals as goal
 

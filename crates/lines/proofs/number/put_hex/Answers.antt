@@ -1,11 +1,8 @@
 -- `lines::number::put_hex` meets its contract. The loop's invariant: the digits of the first i bytes are laid over the store.
-use mathlib.Core.Path.{◌≡◌, refl}
-use Prim.Native.Nat.{◌≤◌, ◌-◌}
+use mathlib.Core.Path.{refl}
 use native.Mathlib.Omega.{arith}
-use lib.ListN.{length, take, length-set}
+use lib.ListN.{length-set}
 use borrow.Author.Rules.{rules}
-use Rattle.base.specs.Stores.{laid}
-use Rattle.lines.specs.Text.{hex}
 use Rattle.lines.proofs.Laws.{hex-none, hex-more, hex-all}
 use Rattle.lines.proofs.number.put_hex.Goals as goal
 

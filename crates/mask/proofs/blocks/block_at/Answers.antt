@@ -1,8 +1,7 @@
 -- `mask::blocks::block_at` meets its contract. The loop's invariant: the first i bytes of the block are those of the piece.
-use mathlib.Core.Path.{◌≡◌, refl}
-use Prim.Native.Nat.{◌≤◌, ◌-◌}
+use mathlib.Core.Path.{refl}
 use native.Mathlib.Omega.{arith}
-use lib.ListN.{length, take, length-set}
+use lib.ListN.{length-set}
 use Rattle.base.specs.Bytes.{part}
 use Rattle.mask.proofs.BlockLaws.{built_more, built_all}
 use Rattle.mask.proofs.blocks.block_at.Goals as goal

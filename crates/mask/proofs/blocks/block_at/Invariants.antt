@@ -1,10 +1,8 @@
 -- `mask::blocks::block_at` meets its contract. The loop's invariant: the first i bytes of the block are those of the piece.
-use mathlib.Core.Path.{◌≡◌, refl}
+use mathlib.Core.Path.{◌≡◌}
 use Prim.Native.Nat.{◌≤◌, ◌-◌}
-use native.Mathlib.Omega.{arith}
-use lib.ListN.{length, take, length-set}
+use lib.ListN.{length, take}
 use Rattle.base.specs.Bytes.{part}
-use Rattle.mask.proofs.BlockLaws.{built_more, built_all}
 use Rattle.mask.proofs.blocks.block_at.Given as goal
 
 abbrev pub invariant-loop-i : goal.invariant-loop-i

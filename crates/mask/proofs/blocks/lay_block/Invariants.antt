@@ -1,11 +1,8 @@
 -- `mask::blocks::lay_block` meets its contract. The loop's invariant: the first i bytes of the block are laid over the store.
-use mathlib.Core.Path.{◌≡◌, refl}
+use mathlib.Core.Path.{◌≡◌}
 use Prim.Native.Nat.{◌≤◌, ◌-◌}
-use native.Mathlib.Omega.{arith}
-use lib.ListN.{length, take, length-set}
-use borrow.Author.Rules.{rules}
+use lib.ListN.{length, take}
 use Rattle.base.specs.Stores.{laid}
-use Rattle.base.proofs.Stores.{laid_none, laid_more, laid-all}
 use Rattle.mask.proofs.blocks.lay_block.Given as goal
 
 abbrev pub invariant-loop-i : goal.invariant-loop-i

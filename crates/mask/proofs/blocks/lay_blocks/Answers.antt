@@ -1,11 +1,7 @@
 -- `mask::blocks::lay_blocks` meets its contract. The loop's invariant: i is a whole number of blocks, and the piece's first i bytes are laid
 -- over the store, masked with the key from its front on. The mask itself is used up before the loop, and comes back at its end.
-use mathlib.Core.Path.{◌≡◌, refl, ◌∙◌}
-use Prim.Native.Nat.{◌≤◌, ◌-◌, ◌%◌}
+use mathlib.Core.Path.{refl, ◌∙◌}
 use native.Mathlib.Omega.{arith}
-use lib.ListN.{length, take}
-use borrow.Author.Rules.{rules}
-use Rattle.base.specs.Stores.{laid}
 use Rattle.base.proofs.Stores.{laid_none}
 use Rattle.mask.specs.Mask.{masked}
 use Rattle.mask.proofs.BlockLaws.{laid-block, laid-blocks}

@@ -1,6 +1,5 @@
 -- `message::doom::doom_any` meets its contract, number by number.
 use mathlib.Core.Path.{sym, ◌∙◌}
-use borrow.Author.Rules.{rules}
 use Rattle.base.specs.Tests.{first_of}
 use Rattle.message.proofs.doom.doom_any.Goals as goal
 

@@ -1,7 +1,6 @@
 -- `message::doom::doom_data` meets its contract: the place in the message before the limit.
-use mathlib.Core.Path.{◌≡◌, sym, ap, ◌∙◌}
+use mathlib.Core.Path.{sym, ap, ◌∙◌}
 use mathlib.Core.List.{[], ◌∷◌}
-use native.Mathlib.Omega.{arith}
 use borrow.Author.Rules.{rules}
 use mathlib.Core.Bool.{Bool, not}
 use Prim.Native.Nat.{◌+◌}

@@ -2,7 +2,6 @@
 use mathlib.Core.Path.{sym, ap, ap₂, ◌∙◌}
 use mathlib.Core.Bool.{Bool}
 use Prim.Native.Nat.{ℕ}
-use borrow.Author.Rules.{rules}
 use Rattle.base.specs.Tests.{first_of}
 use Rattle.message.proofs.Dooms.{control_tests, data_tests, doom-any, doom-reserved, doom-control, doom-data}
 use Rattle.message.proofs.doom.doom_of.Goals as goal

@@ -2,7 +2,6 @@
 use mathlib.Core.Path.{sym, ap}
 use Rattle.coding.specs.declared.opcode.Control.{Control}
 use Rattle.session.specs.Reading.{control_event}
-use borrow.Author.Rules.{rules}
 use Rattle.message.proofs.finish.control_event.Goals as goal
 
 pub returns-in-Close : goal.returns-in-Close

@@ -1,6 +1,5 @@
 -- `message::finish::data_end` meets its contract.
 use mathlib.Core.Path.{◌∙◌}
-use borrow.Author.Rules.{rules}
 use Rattle.message.proofs.finish.data_end.Goals as goal
 
 pub returns-then-text : goal.returns-then-text

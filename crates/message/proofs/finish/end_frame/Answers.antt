@@ -1,10 +1,7 @@
 -- `message::finish::end_frame` meets its contract, by the frame's kind.
-use mathlib.Core.Path.{◌≡◌, refl, sym, ap, ◌∙◌}
-use mathlib.Core.Bool.{false}
+use mathlib.Core.Path.{ap}
 use native.Mathlib.Omega.{arith}
-use borrow.Author.Rules.{rules}
 use Prim.Native.Nat.{ℕ, ◌+◌, ◌≤◌}
-use Rattle.coding.specs.declared.opcode.OpCode.{OpCode}
 use Rattle.session.specs.Frames.{is_reserved, is_control, is_text, before}
 use Rattle.message.proofs.Ends.{ended-reserved, ended-control, ended-data}
 use Rattle.message.proofs.finish.end_frame.Goals as goal

@@ -1,10 +1,8 @@
 -- `message::finish::finish_now` meets its contract.
-use mathlib.Core.Path.{◌≡◌, sym, ◌∙◌}
-use mathlib.Core.Bool.{false}
-use Prim.Native.Nat.{◌+◌, ◌≤◌}
+use mathlib.Core.Path.{sym, ◌∙◌}
+use Prim.Native.Nat.{◌≤◌}
 use native.Mathlib.Omega.{arith}
 use borrow.Author.Rules.{rules}
-use Rattle.session.specs.Frames.{is_control, is_reserved, before}
 use Rattle.message.proofs.Dooms.{data_room}
 use Rattle.message.proofs.Ends.{doom-clear, finish-refused, finish-ended}
 use Rattle.message.proofs.finish.finish_now.Goals as goal

@@ -4,7 +4,6 @@ use Prim.Native.Nat.{◌-◌, ◌≤◌}
 use lib.ListN.{length, take, drop, length-drop}
 use lib.Seq.{take_all}
 use native.Mathlib.Omega.{arith}
-use borrow.Author.Rules.{rules}
 use Rattle.session.specs.Frames.{reason_holds}
 use Rattle.utf8.specs.declared.Scanned.{Scanned}
 use Rattle.utf8.specs.Progress.{is_whole, scanned}

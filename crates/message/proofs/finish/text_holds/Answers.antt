@@ -1,5 +1,4 @@
 -- `message::finish::text_holds` meets its contract.
-use borrow.Author.Rules.{rules}
 use Rattle.session.specs.Frames.{text_holds}
 use Rattle.message.proofs.finish.text_holds.Goals as goal
 

@@ -5,7 +5,6 @@ use Prim.Native.Nat.{ℕ, ◌≤◌}
 use lib.ListN.{length, take}
 use lib.Seq.{length-take-le}
 use native.Mathlib.Omega.{arith}
-use borrow.Author.Rules.{rules}
 use Rattle.base.specs.Table.{pick}
 use Rattle.session.specs.Frames.{is_text, doom, reason_holds, text_holds, verdict}
 use Rattle.message.proofs.Dooms.{control_room}

@@ -1,12 +1,10 @@
 -- `message::payload::checked` meets its contract.
 use mathlib.Core.Path.{◌≡◌, ap, ◌∙◌}
-use Prim.Native.Nat.{ℕ, ◌+◌, ◌-◌}
-use lib.ListN.{take, drop}
+use Prim.Native.Nat.{◌+◌, ◌-◌}
 use native.Mathlib.Omega.{arith}
-use borrow.Author.Rules.{rules}
 use Rattle.base.specs.Bytes.{part}
 use Rattle.utf8.specs.declared.Scanned.{Scanned}
-use Rattle.utf8.specs.Progress.{progress_after, scanned}
+use Rattle.utf8.specs.Progress.{scanned}
 use Rattle.message.proofs.payload.checked.Goals as goal
 
 pub returns-then-text : goal.returns-then-text

@@ -8,7 +8,6 @@ use Rattle.frame.specs.declared.header.FrameHeader.{FrameHeader}
 use Rattle.session.specs.Frames.{frame, header_tests}
 use Rattle.session.specs.Reading.{World}
 use Rattle.message.proofs.Steps.{reached-frame, run-few, turned_open, turned_end}
-use borrow.Author.Rules.{rules}
 use Rattle.message.proofs.pump.payload_turn.Goals as goal
 
 pub store_some-next-requires : goal.store_some-next-requires

@@ -1,13 +1,7 @@
 -- `message::pump::take_bytes` meets its contract. Between turns: a look at what has come is the fold over the bytes taken so far.
-use mathlib.Core.Path.{◌≡◌, refl, ◌∙◌}
-use mathlib.Core.List.{List}
-use Prim.Native.Nat.{ℕ, ◌+◌, ◌*◌, ◌-◌, ◌≤◌}
-use lib.ListN.{length, take}
+use mathlib.Core.Path.{refl, ◌∙◌}
 use native.Mathlib.Omega.{arith}
-use Rattle.session.specs.declared.Answer.TheVariants.{More}
-use Rattle.session.specs.declared.Incoming.{Incoming}
-use Rattle.session.specs.declared.Settings.{Settings}
-use Rattle.session.specs.Reading.{world, after, settle, feed}
+use Rattle.session.specs.Reading.{feed}
 use Rattle.message.proofs.Steps.{feed-goes, feed-stops}
 use Rattle.message.proofs.pump.take_bytes.Goals as goal
 

@@ -1,14 +1,12 @@
 -- `message::pump::take_bytes` meets its contract. Between turns: a look at what has come is the fold over the bytes taken so far.
-use mathlib.Core.Path.{◌≡◌, refl, ◌∙◌}
+use mathlib.Core.Path.{◌≡◌}
 use mathlib.Core.List.{List}
 use Prim.Native.Nat.{ℕ, ◌+◌, ◌*◌, ◌-◌, ◌≤◌}
 use lib.ListN.{length, take}
-use native.Mathlib.Omega.{arith}
 use Rattle.session.specs.declared.Answer.TheVariants.{More}
 use Rattle.session.specs.declared.Incoming.{Incoming}
 use Rattle.session.specs.declared.Settings.{Settings}
 use Rattle.session.specs.Reading.{world, after, settle, feed}
-use Rattle.message.proofs.Steps.{feed-goes, feed-stops}
 use Rattle.message.proofs.pump.take_bytes.Given as goal
 
 pub record Going (g : Settings) (state : ℕ) (piece m₀ c₀ : List ℕ) (i₀ : Incoming) (m c : List ℕ) (i : Incoming) (at : ℕ) : Type 0 where

@@ -1,11 +1,10 @@
 -- `message::pump::take_within` meets its contract: the header lacks bytes, or the piece leaves its frame, or the run is laid.
 use mathlib.Core.Path.{◌≡◌, refl, sym, ap, ◌∙◌}
-use mathlib.Core.Bool.{true, false}
-use Prim.Native.Nat.{ℕ, ◌+◌, ◌≤◌, ◌<◌}
+use mathlib.Core.Bool.{true}
+use Prim.Native.Nat.{◌+◌, ◌≤◌, ◌<◌}
 use native.Mathlib.Omega.{arith}
 use lib.ListN.{length}
 use borrow.Author.Rules.{rules}
-use borrow.Author.Tests.{not-false}
 use Rattle.base.specs.Tests.{first_of}
 use Rattle.frame.specs.declared.header.FrameHeader.{FrameHeader}
 use Rattle.frame.specs.declared.header.Parsed.TheVariants.{Whole}

@@ -1,5 +1,4 @@
 -- `reader::conclude::code_allowed` meets its contract, variant by variant.
-use borrow.Author.Rules.{rules}
 use Rattle.reader.proofs.conclude.code_allowed.Goals as goal
 
 pub returns-in-CodeAndReason : goal.returns-in-CodeAndReason

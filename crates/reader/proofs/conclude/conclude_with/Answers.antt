@@ -1,7 +1,6 @@
 -- `reader::conclude::conclude_with` meets its contract, variant by variant.
 use Prim.Native.Nat.{◌≤◌}
 use native.Mathlib.Omega.{arith}
-use borrow.Author.Rules.{rules}
 use Rattle.reader.specs.Whole.{session_of}
 use Rattle.reader.proofs.Replying.{ping_left}
 use Rattle.reader.proofs.conclude.conclude_with.Goals as goal

@@ -1,6 +1,5 @@
 -- `reader::conclude::is_allowed` meets its contract.
 use mathlib.Core.Path.{ap, ◌∙◌}
-use borrow.Author.Rules.{rules}
 use Rattle.session.specs.Replies.{code_allowed}
 use Rattle.reader.proofs.conclude.is_allowed.Goals as goal
 

@@ -4,7 +4,6 @@ use Prim.Native.Nat.{◌≤◌}
 use lib.ListN.{length}
 use lib.Seq.{length-take-le}
 use native.Mathlib.Omega.{arith}
-use borrow.Author.Rules.{rules}
 use Rattle.reader.proofs.Replying.{shown-itself, shown-replaced}
 use Rattle.reader.proofs.conclude.show_close.Goals as goal
 

@@ -1,6 +1,5 @@
 -- `reader::part::front` meets its contract.
 use mathlib.Core.Path.{refl, sym}
-use borrow.Author.Rules.{rules}
 use lib.Seq.{length-take-le}
 use Rattle.reader.proofs.Parts.{front_all, front_none}
 use Rattle.reader.proofs.part.front.Goals as goal

@@ -1,6 +1,5 @@
 -- `reader::part::part` meets its contract, kind by kind.
 use mathlib.Core.Path.{refl}
-use borrow.Author.Rules.{rules}
 use Rattle.session.specs.Answers.{part_of}
 use Rattle.reader.proofs.part.part.Goals as goal
 

@@ -1,5 +1,4 @@
 -- `reader::part::part_number` meets its contract, kind by kind.
-use borrow.Author.Rules.{rules}
 use Rattle.reader.proofs.part.part_number.Goals as goal
 
 pub returns-in-Text : goal.returns-in-Text

@@ -1,6 +1,5 @@
 -- `reader::read::flag` meets its contract: closed, 16, an event in spite of the flag, or no flag.
 use mathlib.Core.Path.{sym, ◌∙◌}
-use borrow.Author.Rules.{rules}
 use Rattle.reader.proofs.Turns.{flag_closed, flag_early, flag_event, flag_off}
 use Rattle.reader.proofs.read.flag.Goals as goal
 

@@ -1,7 +1,6 @@
 -- `reader::read::is_calm` meets its contract.
 use mathlib.Core.Path.{sym, ap, ◌∙◌}
 use mathlib.Core.Bool.{not}
-use borrow.Author.Rules.{rules}
 use Rattle.reader.proofs.read.is_calm.Goals as goal
 
 pub returns : goal.returns

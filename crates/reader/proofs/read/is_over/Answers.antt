@@ -1,5 +1,4 @@
 -- `reader::read::is_over` meets its contract.
-use borrow.Author.Rules.{rules}
 use borrow.Author.Tests.{eq-eqb, ne_eqb}
 use Rattle.reader.proofs.read.is_over.Goals as goal
 

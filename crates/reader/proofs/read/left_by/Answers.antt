@@ -1,7 +1,6 @@
 -- `reader::read::left_by` meets its contract: the answer is concluded, and the flag is looked at.
 use Rattle.reader.specs.Whole.{session_of}
 use Rattle.reader.proofs.Turns.{left_done}
-use borrow.Author.Rules.{rules}
 use Rattle.reader.proofs.read.left_by.Goals as goal
 
 pub returns : goal.returns

@@ -1,7 +1,6 @@
 -- `reader::read::read_number` meets its contract: the tests are asked one after the other.
 use mathlib.Core.Path.{◌≡◌, sym, ap, ◌∙◌}
 use mathlib.Core.Bool.{false, not}
-use borrow.Author.Rules.{rules}
 use borrow.Author.Tests.{eq-eqb, ne_eqb}
 use Rattle.base.proofs.Tests.{met, passed}
 use Rattle.session.specs.Range.{range_of}

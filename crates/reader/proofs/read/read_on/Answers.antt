@@ -1,7 +1,6 @@
 -- `reader::read::read_on` meets its contract: it is over, or bytes are taken.
 use mathlib.Core.Path.{sym, ◌∙◌}
 use Prim.Native.Nat.{ℕ}
-use borrow.Author.Rules.{rules}
 use Rattle.session.specs.declared.Session.{Session}
 use Rattle.reader.specs.Whole.{session_of}
 use Rattle.reader.proofs.Turns.{on_closed, on_open}

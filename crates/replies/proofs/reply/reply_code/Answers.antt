@@ -1,5 +1,4 @@
 -- `replies::reply::reply_code` meets its contract, variant by variant.
-use borrow.Author.Rules.{rules}
 use Rattle.replies.proofs.reply.reply_code.Goals as goal
 
 pub returns-in-Nothing : goal.returns-in-Nothing

@@ -1,6 +1,5 @@
 -- `replies::reply::reply_fits` meets its contract: a reply has no lead.
 use native.Mathlib.Nat.{zero-add}
-use borrow.Author.Rules.{rules}
 use Rattle.replies.proofs.reply.reply_fits.Goals as goal
 
 pub returns : goal.returns

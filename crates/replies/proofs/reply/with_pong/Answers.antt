@@ -1,6 +1,5 @@
 -- `replies::reply::with_pong` meets its contract.
 use mathlib.Core.Path.{sym, ◌∙◌}
-use borrow.Author.Rules.{rules}
 use Rattle.session.specs.Replies.{with_pong}
 use Rattle.replies.proofs.reply.with_pong.Goals as goal
 

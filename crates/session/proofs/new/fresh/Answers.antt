@@ -1,5 +1,4 @@
 -- `session::new::fresh` meets its contract.
-use borrow.Author.Rules.{rules}
 use Rattle.session.specs.Calls.{fresh}
 use Rattle.session.proofs.new.fresh.Goals as goal
 

@@ -1,7 +1,6 @@
 -- `session::new::new` meets its contract.
 use mathlib.Core.Path.{sym, ap, ◌∙◌}
 use Prim.Native.Nat.{ℕ}
-use borrow.Author.Rules.{rules}
 use Rattle.session.specs.declared.Sent.TheVariants.{Done, Refused}
 use Rattle.session.specs.Calls.{fresh, handed, new_call}
 use Rattle.session.proofs.new.new.Goals as goal

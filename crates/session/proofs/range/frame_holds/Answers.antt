@@ -1,6 +1,5 @@
 -- `session::range::frame_holds` meets its contract.
 use mathlib.Core.Path.{sym, ◌∙◌}
-use borrow.Author.Rules.{rules}
 use borrow.Author.Tests.{le-leb, lt-leb, eq-eqb, ne_eqb}
 use Rattle.session.proofs.Choices.{both-none}
 use Rattle.session.proofs.range.frame_holds.Goals as goal

@@ -1,7 +1,6 @@
 -- `session::range::header_and_count_hold` meets its contract.
 use mathlib.Core.Path.{◌≡◌, sym, ◌∙◌}
 use mathlib.Core.Bool.{true}
-use borrow.Author.Rules.{rules}
 use borrow.Author.Tests.{eq-eqb, ne_eqb}
 use Rattle.session.proofs.Holds.{few, held_much, held_lacking, held_whole}
 use Rattle.session.proofs.range.header_and_count_hold.Goals as goal

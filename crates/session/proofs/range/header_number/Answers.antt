@@ -1,6 +1,5 @@
 -- `session::range::header_number` meets its contract.
 use mathlib.Core.Path.{sym, ◌∙◌}
-use borrow.Author.Rules.{rules}
 use Rattle.session.proofs.Holds.{header-reserved, header-long, header-fits}
 use Rattle.session.proofs.range.header_number.Goals as goal
 

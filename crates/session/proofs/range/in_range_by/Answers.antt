@@ -1,6 +1,5 @@
 -- `session::range::in_range_by` meets its contract.
 use mathlib.Core.Path.{sym, ◌∙◌}
-use borrow.Author.Rules.{rules}
 use Rattle.session.specs.Range.{range_of}
 use Rattle.session.proofs.Choices.{both-none, both-all}
 use Rattle.session.proofs.range.in_range_by.Goals as goal

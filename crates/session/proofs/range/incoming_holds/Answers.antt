@@ -1,6 +1,5 @@
 -- `session::range::incoming_holds` meets its contract.
 use mathlib.Core.Path.{◌∙◌}
-use borrow.Author.Rules.{rules}
 use borrow.Author.Tests.{le-leb, lt-leb}
 use Rattle.session.proofs.Choices.{both-none, both-all}
 use Rattle.session.proofs.Holds.{incoming_numbers}

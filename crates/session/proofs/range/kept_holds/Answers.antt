@@ -1,5 +1,4 @@
 -- `session::range::kept_holds` meets its contract.
-use borrow.Author.Rules.{rules}
 use borrow.Author.Tests.{le-leb, lt-leb}
 use Rattle.session.proofs.range.kept_holds.Goals as goal
 

@@ -1,6 +1,5 @@
 -- `session::range::reply_holds` meets its contract.
 use mathlib.Core.Path.{sym, ◌∙◌}
-use borrow.Author.Rules.{rules}
 use borrow.Author.Tests.{lt-leb}
 use Rattle.session.specs.Range.{reply_holds}
 use Rattle.session.proofs.Holds.{reply_few}

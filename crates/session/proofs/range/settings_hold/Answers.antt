@@ -1,6 +1,5 @@
 -- `session::range::settings_hold` meets its contract.
 use mathlib.Core.Path.{sym, ◌∙◌}
-use borrow.Author.Rules.{rules}
 use borrow.Author.Tests.{le-leb, lt-leb}
 use Rattle.session.specs.Range.{settings_hold}
 use Rattle.session.proofs.range.settings_hold.Goals as goal

@@ -1,6 +1,5 @@
 -- `writer::output::held` meets its contract: nothing is shown where a number is owed.
 use mathlib.Core.Path.{refl, sym, ◌∙◌}
-use borrow.Author.Rules.{rules}
 use lib.Seq.{length-take-le}
 use Rattle.writer.proofs.Calls.{held_none, held_all, held_within}
 use Rattle.writer.proofs.output.held.Goals as goal

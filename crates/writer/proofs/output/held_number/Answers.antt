@@ -1,5 +1,4 @@
 -- `writer::output::held_number` meets its contract.
-use borrow.Author.Rules.{rules}
 use Rattle.session.specs.Calls.{output_short, held_number}
 use Rattle.session.specs.Range.{in_range}
 use Rattle.writer.proofs.output.held_number.Goals as goal

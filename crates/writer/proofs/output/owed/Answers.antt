@@ -1,7 +1,6 @@
 -- `writer::output::owed` meets its contract: 20, 1, or none.
 use mathlib.Core.Path.{◌≡◌, sym, ap, ◌∙◌}
 use mathlib.Core.Bool.{false, not}
-use borrow.Author.Rules.{rules}
 use Rattle.base.proofs.Tests.{met, passed, none_met}
 use Rattle.session.specs.Range.{range_of}
 use Rattle.writer.proofs.Numbers.{short-small, short-held, long}

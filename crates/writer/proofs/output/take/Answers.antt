@@ -1,7 +1,6 @@
 -- `writer::output::take` meets its contract: a number is owed, or the bytes go.
 use mathlib.Core.Path.{◌≡◌, sym, ◌∙◌}
 use native.Mathlib.Omega.{arith}
-use borrow.Author.Rules.{rules}
 use Rattle.base.specs.Tests.{first_of}
 use Rattle.session.specs.Calls.{output_short, held_number, take_tests}
 use Rattle.session.specs.Range.{in_range}

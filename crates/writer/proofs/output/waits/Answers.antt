@@ -1,5 +1,4 @@
 -- `writer::output::waits` meets its contract.
-use borrow.Author.Rules.{rules}
 use Rattle.session.specs.Calls.{waits_call}
 use Rattle.writer.proofs.output.waits.Goals as goal
 

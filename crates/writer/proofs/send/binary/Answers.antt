@@ -1,5 +1,4 @@
 -- `writer::send::binary` meets its contract.
-use borrow.Author.Rules.{rules}
 use Rattle.session.specs.Calls.{binary_call}
 use Rattle.writer.proofs.send.binary.Goals as goal
 

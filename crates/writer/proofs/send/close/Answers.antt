@@ -1,6 +1,5 @@
 -- `writer::send::close` meets its contract, for an empty close and for one with a code.
 use mathlib.Core.Path.{◌∙◌}
-use borrow.Author.Rules.{rules}
 use Rattle.writer.proofs.Calls.{close_empty, close_code}
 use Rattle.writer.proofs.send.close.Goals as goal
 

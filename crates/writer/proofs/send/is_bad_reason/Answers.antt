@@ -1,7 +1,6 @@
 -- `writer::send::is_bad_reason` meets its contract.
 use mathlib.Core.Path.{ap}
 use mathlib.Core.Bool.{not}
-use borrow.Author.Rules.{rules}
 use borrow.Author.Tests.{lt-ltb, le-ltb}
 use Rattle.writer.proofs.send.is_bad_reason.Goals as goal
 

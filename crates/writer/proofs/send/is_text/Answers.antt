@@ -1,6 +1,5 @@
 -- `writer::send::is_text` meets its contract.
 use mathlib.Core.Path.{ap, ◌∙◌}
-use borrow.Author.Rules.{rules}
 use Rattle.utf8.specs.declared.Scanned.{Scanned}
 use Rattle.utf8.specs.Progress.{scanned, is_whole}
 use Rattle.writer.proofs.send.is_text.Goals as goal

@@ -1,5 +1,4 @@
 -- `writer::send::ping` meets its contract.
-use borrow.Author.Rules.{rules}
 use Rattle.session.specs.Calls.{ping_call}
 use Rattle.writer.proofs.send.ping.Goals as goal
 

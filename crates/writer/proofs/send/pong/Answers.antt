@@ -1,7 +1,6 @@
 -- `writer::send::pong` meets its contract: a number is owed, or the pong waits and moves if it fits.
 use mathlib.Core.Path.{◌≡◌, sym, ◌∙◌}
 use Prim.Native.Nat.{◌≤◌}
-use borrow.Author.Rules.{rules}
 use borrow.Author.Tests.{ltb-false}
 use lib.Dec.{ltb}
 use lib.ListN.{length}

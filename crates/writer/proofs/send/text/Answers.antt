@@ -1,5 +1,4 @@
 -- `writer::send::text` meets its contract.
-use borrow.Author.Rules.{rules}
 use Rattle.session.specs.Calls.{text_call}
 use Rattle.writer.proofs.send.text.Goals as goal
 
