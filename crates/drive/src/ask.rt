@@ -62,7 +62,7 @@ pub(crate) const BAD: usize = 25;
 pub(crate) const END: usize = 26;
 
 // The numbers of a line's arguments: of a name its place among the names, of HEX how many bytes it has.
-#[derive(Drop)]
+#[derive(Clone, Copy)]
 pub(crate) struct Args {
     pub(crate) first: u64,
     pub(crate) second: u64,

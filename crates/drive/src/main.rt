@@ -1,5 +1,7 @@
 // Reads a script of calls from standard input, makes them, and writes a line for each (docs/DRIVE.md). It has no rule of its own: every
-// answer is that of a public call.
+// answer is that of a public call. A write that fails ends the run, as main's error.
+#![tactic(auto)]
+
 mod ask;
 mod begin;
 mod calls;
@@ -11,6 +13,7 @@ mod state;
 mod told;
 
 use crate::state::{Bytes, Control, Held, Message, Output, State, Text};
+use std::io;
 
 // The longest line, without its line feed.
 const LONGEST: usize = 300100;
@@ -34,26 +37,35 @@ fn what(n: usize, of: usize, ended: bool) -> usize {
 
 // More bytes of the script are wanted. The answers are written first: whoever writes the script may wait for them. A read that fails is not
 // the script's end: the line that it would have given is bad, and it is said.
-fn more(state: State, bytes: &mut Bytes, out: &Text) -> State {
-    io::write_all(1, input::front(out, state.at));
+fn more(
+    rt: &(impl Input + Print + Eprint),
+    state: State,
+    bytes: &mut Bytes,
+    out: &Text,
+) -> io::Result<State> {
+    rt.write_all(input::front(out, state.at))?;
     let window = state.window;
-    let refilled = input::refill(bytes, window);
+    let refilled = input::refill(&mut rt.reader(), bytes, window);
     let mut next = state;
     next.window = refilled;
     next.at = 0;
     if refilled.failed {
-        io::write_all(2, b"drive: the script can't be read\n");
+        rt.eprintln("drive: the script can't be read")?;
         next.word = ask::BAD;
-        next.line = std::num::wrapping_add_u64(state.line, 1);
-        return next;
+        next.line = state.line.wrapping_add(1);
     }
-    next
+    Ok(next)
 }
 
 // The next line, or more of the script; nothing where `all` reads again.
-fn feed(state: State, bytes: &mut Bytes, out: &Text) -> State {
+fn feed(
+    rt: &(impl Input + Print + Eprint),
+    state: State,
+    bytes: &mut Bytes,
+    out: &Text,
+) -> io::Result<State> {
     if state.word == ask::AGAIN {
-        return state;
+        return Ok(state);
     }
     let before = state.window;
     let window = input::used(before, state.used);
@@ -64,12 +76,12 @@ fn feed(state: State, bytes: &mut Bytes, out: &Text) -> State {
     next.word = what(n, shown.len(), window.ended);
     next.used = 0;
     if next.word == ask::PASSED {
-        return more(next, bytes, out);
+        return more(rt, next, bytes, out);
     }
     next.length = n;
     next.used = input::sum(n, 1);
-    next.line = std::num::wrapping_add_u64(state.line, 1);
-    next
+    next.line = state.line.wrapping_add(1);
+    Ok(next)
 }
 
 // A script that alters stores can have a byte anywhere.
@@ -111,6 +123,7 @@ fn act(
 
 // One turn: a line, another read of `all`, or more of the script.
 fn turn(
+    rt: &(impl Input + Print + Eprint),
     state: State,
     bytes: &mut Bytes,
     held: &mut Held,
@@ -118,36 +131,48 @@ fn turn(
     control: &mut Control,
     output: &mut Output,
     out: &mut Text,
-) -> State {
-    let fed = feed(state, bytes, out);
+) -> io::Result<State> {
+    let fed = feed(rt, state, bytes, out)?;
     let window = fed.window;
     let line = input::front(input::shown(bytes, window), fed.length);
     let asked = ask::ask(fed, line, held);
-    act(asked, line, held, message, control, output, out)
+    Ok(act(asked, line, held, message, control, output, out))
 }
 
-// A proved loop has to end, and nothing says that the script does. So the loop counts its turns down, from a number that no run uses up.
+// The answers are written out once they fill an eighth of their room: what is left has room for those of the longest turn, of `stores` that
+// shows 70,000 bytes, 256 and 140,000.
+fn written(rt: &impl Print, state: State, out: &Text) -> io::Result<State> {
+    if state.at < 65536 {
+        return Ok(state);
+    }
+    rt.write_all(input::front(out, state.at))?;
+    let mut next = state;
+    next.at = 0;
+    Ok(next)
+}
+
+// A proved loop has to end, and nothing says that the script does. So the loop counts its turns, up to a number that no run uses up.
 fn run(
+    rt: &(impl Input + Print + Eprint),
     bytes: &mut Bytes,
     held: &mut Held,
     message: &mut Message,
     control: &mut Control,
     output: &mut Output,
     out: &mut Text,
-) {
+) -> io::Result<()> {
     let mut state = state::none();
-    let mut turns = u64::MAX;
-    while turns > 0 {
-        state = turn(state, bytes, held, message, control, output, out);
+    for _ in 0..u64::MAX {
+        let turned = turn(rt, state, bytes, held, message, control, output, out)?;
+        state = written(rt, turned, out)?;
         if state.word == ask::END {
             break;
         }
-        turns -= 1;
     }
-    io::write_all(1, input::front(out, state.at));
+    rt.write_all(input::front(out, state.at))
 }
 
-fn main() {
+fn main(rt: HostRuntime) -> io::Result<()> {
     let mut bytes = [0u8; 327680];
     let mut held = [0u8; 300000];
     let mut message = [0u8; 70000];
@@ -155,11 +180,12 @@ fn main() {
     let mut output = [0u8; 140000];
     let mut out = [0u8; 524288];
     run(
+        &rt,
         &mut bytes,
         &mut held,
         &mut message,
         &mut control,
         &mut output,
         &mut out,
-    );
+    )
 }

@@ -4,14 +4,8 @@ use crate::state::{Control, Held, Message, Output, State};
 
 // Zeros over the first n bytes.
 fn zero(store: &mut [u8], n: usize) {
-    let mut i = 0;
-    while i < n {
-        if store.len() <= i {
-            return;
-        }
-        store[i] = 0;
-        i += 1;
-    }
+    let most = n.min(store.len());
+    store[..most].fill(0);
 }
 
 // All zeros, as a session finds them.

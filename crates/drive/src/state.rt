@@ -19,7 +19,7 @@ pub(crate) type Output = [u8; 140000];
 // The answers that are not written yet.
 pub(crate) type Text = [u8; 524288];
 
-#[derive(Drop)]
+#[derive(Clone, Copy)]
 pub(crate) struct State {
     pub(crate) session: Session,
     // of the next call that takes masks

@@ -36,7 +36,7 @@ pub(crate) const CONTROL: usize = 14;
 pub(crate) const OUTPUT: usize = 15;
 
 // A word and the number behind it.
-#[derive(Drop)]
+#[derive(Clone, Copy)]
 pub(crate) struct Said {
     pub(crate) word: usize,
     pub(crate) number: u64,
@@ -80,13 +80,7 @@ pub(crate) fn say(out: &mut Text, at: usize, said: Said) -> usize {
     script::answers::number(out, named, said.number)
 }
 
-// A line's end. The answers are written out once they fill an eighth of their room: what is left has room for the longest line, of a read
-// that shows 70,000 bytes and puts out 140,000.
+// A line's end.
 pub(crate) fn end(out: &mut Text, at: usize) -> usize {
-    let ended = script::answers::put(out, at, b"\n");
-    if ended < 65536 {
-        return ended;
-    }
-    io::write_all(1, input::front(out, ended));
-    0
+    script::answers::put(out, at, b"\n")
 }

@@ -1,9 +1,13 @@
 // A window on standard input: the bytes that were read and are not used yet, those of a lent array from one place to another. No place is
 // ever behind the array's end; the tests on places stand in for a proof of that.
+#![tactic(auto)]
+
 ghost use Rattle.std.specs.Prelude.{◌≡◌, take};
 ghost use Rattle.input.specs.Window.{no_window, sum_of, shown_of, used_of};
 
-#[derive(Drop)]
+use std::io::Read;
+
+#[derive(Clone, Copy)]
 pub struct Window {
     pub from: usize,
     pub to: usize,
@@ -72,23 +76,25 @@ pub fn used(window: Window, n: usize) -> Window
 }
 
 // Reads behind the bytes that are left, which stand at the front.
-fn read_behind(bytes: &mut [u8], left: usize) -> Window {
+fn read_behind<R: Read>(reader: &mut R, bytes: &mut [u8], left: usize) -> Window {
     if bytes.len() < left {
         return none();
     }
-    let got = libc::read(0, &mut bytes[left..]);
-    let more = io::count(got, &bytes[left..]);
+    let (more, failed) = match reader.read(&mut bytes[left..]) {
+        Ok(n) => (n, false),
+        Err(_) => (0, true),
+    };
     Window {
         from: 0,
         to: sum(left, more),
-        ended: got == 0,
-        failed: got < 0,
+        ended: more == 0 && !failed,
+        failed,
     }
 }
 
 // Moves what is left to the front and reads behind it. The array is to have room behind the longest that is waited for: where it has none,
 // the read gives no byte, which is taken for the input's end.
-pub fn refill(bytes: &mut [u8], window: Window) -> Window {
+pub fn refill<R: Read>(reader: &mut R, bytes: &mut [u8], window: Window) -> Window {
     let from = window.from;
     let to = window.to;
     if bytes.len() < to {
@@ -98,5 +104,5 @@ pub fn refill(bytes: &mut [u8], window: Window) -> Window {
         return window;
     }
     stores::to_front(bytes, from, to);
-    read_behind(bytes, to - from)
+    read_behind(reader, bytes, to - from)
 }

@@ -1,7 +1,10 @@
 // Replays a capture from standard input and writes its listing to standard output (document 01, "Replay of a capture"). It only passes
-// bytes on: the steps of `capture` make the listing.
+// bytes on: the steps of `capture` make the listing. A write that fails ends the run, as main's error.
+#![tactic(auto)]
+
 use capture::step::{Came, Replay};
 use input::Window;
+use std::io;
 
 // The file's bytes that were read and are not used yet. A record has at most 65,539, so there is room wherever more is wanted.
 type Bytes = [u8; 131072];
@@ -25,8 +28,8 @@ struct Went {
 }
 
 // Writes the lines up to place `at`.
-fn write_out(lines: &Lines, at: usize) {
-    io::write_all(1, input::front(lines, at));
+fn write_out(rt: &impl Print, lines: &Lines, at: usize) -> io::Result<()> {
+    rt.write_all(input::front(lines, at))
 }
 
 fn went_on(replay: Replay, window: Window, at: usize) -> Went {
@@ -48,47 +51,56 @@ fn ended(replay: Replay, window: Window) -> Went {
 }
 
 // More bytes of the file are wanted. A read that fails is not the file's end: the listing then has no last line, and it is said.
-fn more(replay: Replay, window: Window, at: usize, bytes: &mut Bytes, lines: &Lines) -> Went {
-    let refilled = input::refill(bytes, window);
+fn more(
+    rt: &(impl Input + Print + Eprint),
+    replay: Replay,
+    window: Window,
+    at: usize,
+    bytes: &mut Bytes,
+    lines: &Lines,
+) -> io::Result<Went> {
+    let refilled = input::refill(&mut rt.reader(), bytes, window);
     if refilled.failed {
-        write_out(lines, at);
-        io::write_all(2, b"replay: the capture can't be read\n");
-        return ended(replay, refilled);
+        write_out(rt, lines, at)?;
+        rt.eprintln("replay: the capture can't be read")?;
+        return Ok(ended(replay, refilled));
     }
-    went_on(replay, refilled, at)
+    Ok(went_on(replay, refilled, at))
 }
 
 // What follows a step that came to this.
 fn follow(
+    rt: &(impl Input + Print + Eprint),
     came: Came,
     replay: Replay,
     window: Window,
     at: usize,
     bytes: &mut Bytes,
     lines: &Lines,
-) -> Went {
+) -> io::Result<Went> {
     match came {
-        Came::Lacking => more(replay, window, at, bytes, lines),
+        Came::Lacking => more(rt, replay, window, at, bytes, lines),
         Came::Full => {
-            write_out(lines, at);
-            went_on(replay, window, 0)
+            write_out(rt, lines, at)?;
+            Ok(went_on(replay, window, 0))
         }
-        Came::Line(n) => went_on(replay, window, input::sum(at, n)),
+        Came::Line(n) => Ok(went_on(replay, window, input::sum(at, n))),
         Came::Last(n) => {
-            write_out(lines, input::sum(at, n));
-            ended(replay, window)
+            write_out(rt, lines, input::sum(at, n))?;
+            Ok(ended(replay, window))
         }
     }
 }
 
 fn turn(
+    rt: &(impl Input + Print + Eprint),
     went: Went,
     bytes: &mut Bytes,
     message: &mut Message,
     control: &mut Control,
     output: &mut Output,
     lines: &mut Lines,
-) -> Went {
+) -> io::Result<Went> {
     let replay = went.replay;
     let window = went.window;
     let at = went.at;
@@ -106,41 +118,42 @@ fn turn(
     let next = stepped.replay;
     let came = stepped.came;
     let used = input::used(window, stepped.used);
-    follow(came, next, used, at, bytes, lines)
+    follow(rt, came, next, used, at, bytes, lines)
 }
 
-// Steps to the listing's end. A proved loop has to end, and nothing says that the input does. So the loop counts its turns down, from a
-// number that no run uses up. It does not stand where the arrays do, since that is dear to check.
+// Steps to the listing's end. A proved loop has to end, and nothing says that the input does. So the loop counts its turns, up to a number
+// that no run uses up. It does not stand where the arrays do, since that is dear to check.
 fn run(
+    rt: &(impl Input + Print + Eprint),
     bytes: &mut Bytes,
     message: &mut Message,
     control: &mut Control,
     output: &mut Output,
     lines: &mut Lines,
-) {
+) -> io::Result<()> {
     let replay = capture::step::begin();
     let mut went = went_on(replay, input::none(), 0);
-    let mut turns = u64::MAX;
-    while turns > 0 {
-        went = turn(went, bytes, message, control, output, lines);
+    for _ in 0..u64::MAX {
+        went = turn(rt, went, bytes, message, control, output, lines)?;
         if !went.on {
             break;
         }
-        turns -= 1;
     }
+    Ok(())
 }
 
-fn main() {
+fn main(rt: HostRuntime) -> io::Result<()> {
     let mut bytes = [0u8; 131072];
     let mut message = [0u8; 32768];
     let mut control = [0u8; 125];
     let mut output = [0u8; 131];
     let mut lines = [0u8; 131200];
     run(
+        &rt,
         &mut bytes,
         &mut message,
         &mut control,
         &mut output,
         &mut lines,
-    );
+    )
 }

@@ -110,8 +110,7 @@ pub(crate) fn runs(out: &mut Text, at: usize) -> usize {
     let mut reached = at;
     let mut from: u16 = 0;
     let mut now = sort_of(0);
-    let mut code: u16 = 0;
-    while code < 65535 {
+    for code in 0..65535u16 {
         let next = sort_of(code + 1);
         if next.word != now.word || next.allowed != now.allowed {
             let ended = run(from, code, now, out, reached);
@@ -119,7 +118,6 @@ pub(crate) fn runs(out: &mut Text, at: usize) -> usize {
             from = code + 1;
             now = next;
         }
-        code += 1;
     }
     run(from, 65535, now, out, reached)
 }

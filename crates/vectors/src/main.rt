@@ -1,7 +1,9 @@
 // Runs the public functions of the leaf crates on records from standard input and answers each, to be compared with what
 // tests/vectors/make computes from the documents. A record is a line: a word and its argument, which is a number for `violation`, nothing
 // for `codes`, and else HEX (docs/DRIVE.md). Its answer is the record itself and the words behind it; for `codes`, a line for each run of
-// codes. A line that is no record is the last: `bad record`.
+// codes. A line that is no record is the last: `bad record`. A read or a write that fails ends the run, as main's error.
+#![tactic(auto)]
+
 mod args;
 mod closes;
 mod codes;
@@ -13,6 +15,7 @@ mod utf;
 use crate::told::{Answer, Store, Text};
 use input::Window;
 use script::values::Value;
+use std::io;
 
 // The input's bytes that were read and not used yet, and those of a record's argument.
 type Bytes = [u8; 65536];
@@ -123,15 +126,10 @@ struct State {
     what: usize,
 }
 
-// A line's end. The answers are written out once they fill half their room, which leaves more than a record's lines take.
+// A line's end.
 fn end(state: State, out: &mut Text, at: usize) -> State {
     let mut next = state;
     next.at = script::answers::put(out, at, b"\n");
-    if next.at < 32768 {
-        return next;
-    }
-    io::write_all(1, input::front(out, next.at));
-    next.at = 0;
     next
 }
 
@@ -190,32 +188,57 @@ fn look(state: State, bytes: &[u8]) -> State {
     next
 }
 
-fn more(state: State, bytes: &mut Bytes) -> State {
+fn more(rt: &impl Input, state: State, bytes: &mut Bytes) -> io::Result<State> {
     let window = state.window;
-    let refilled = input::refill(bytes, window);
+    let refilled = input::refill(&mut rt.reader(), bytes, window);
+    if refilled.failed {
+        return Err(io::Error::other("the records can't be read"));
+    }
     let mut next = state;
     next.window = refilled;
     next.used = 0;
-    next
+    Ok(next)
 }
 
-fn turn(state: State, bytes: &mut Bytes, args: &mut Args, out: &mut Text) -> State {
+fn turn(
+    rt: &impl Input,
+    state: State,
+    bytes: &mut Bytes,
+    args: &mut Args,
+    out: &mut Text,
+) -> io::Result<State> {
     let looked = look(state, bytes);
     let window = looked.window;
     let what = looked.what;
     match what {
         A_LINE => {
             let line = input::front(input::shown(bytes, window), looked.length);
-            record(looked, line, args, out)
+            Ok(record(looked, line, args, out))
         }
-        WANTING => more(looked, bytes),
-        NO_RECORD => bad(looked, out),
-        _ => looked,
+        WANTING => more(rt, looked, bytes),
+        NO_RECORD => Ok(bad(looked, out)),
+        _ => Ok(looked),
     }
 }
 
-// A proved loop has to end, and nothing says that the input does. So the loop counts its turns down, from a number that no run uses up.
-fn run(bytes: &mut Bytes, args: &mut Args, out: &mut Text) {
+// The answers are written out once they fill half their room, which leaves more than a record's lines take.
+fn written(rt: &impl Print, state: State, out: &Text) -> io::Result<State> {
+    if state.at < 32768 {
+        return Ok(state);
+    }
+    rt.write_all(input::front(out, state.at))?;
+    let mut next = state;
+    next.at = 0;
+    Ok(next)
+}
+
+// A proved loop has to end, and nothing says that the input does. So the loop counts its turns, up to a number that no run uses up.
+fn run(
+    rt: &(impl Input + Print),
+    bytes: &mut Bytes,
+    args: &mut Args,
+    out: &mut Text,
+) -> io::Result<()> {
     let mut state = State {
         window: input::none(),
         used: 0,
@@ -223,20 +246,18 @@ fn run(bytes: &mut Bytes, args: &mut Args, out: &mut Text) {
         at: 0,
         what: WANTING,
     };
-    let mut turns = u64::MAX;
-    while turns > 0 {
-        state = turn(state, bytes, args, out);
+    for _ in 0..u64::MAX {
+        state = written(rt, turn(rt, state, bytes, args, out)?, out)?;
         if state.what == OVER {
             break;
         }
-        turns -= 1;
     }
-    io::write_all(1, input::front(out, state.at));
+    rt.write_all(input::front(out, state.at))
 }
 
-fn main() {
+fn main(rt: HostRuntime) -> io::Result<()> {
     let mut bytes = [0u8; 65536];
     let mut args = [0u8; 255];
     let mut out = [0u8; 65536];
-    run(&mut bytes, &mut args, &mut out);
+    run(&rt, &mut bytes, &mut args, &mut out)
 }

@@ -83,15 +83,9 @@ fn item(letter: u8, n: u64, store: &Store, out: &mut Text, at: usize) -> usize {
 
 pub(crate) fn tell(answer: Answer, store: &Store, out: &mut Text, at: usize) -> usize {
     let shape = script::words::word(b"n w x wn nx nnx nnnn nnwn nnnnwnnx", answer.shape);
-    let numbers = answer.numbers;
     let mut reached = at;
-    let mut i = 0;
-    while i < 8 {
-        if shape.len() <= i {
-            return reached;
-        }
-        reached = item(shape[i], numbers[i], store, out, reached);
-        i += 1;
+    for (letter, n) in shape.iter().zip(&answer.numbers) {
+        reached = item(*letter, *n, store, out, reached);
     }
     reached
 }
