@@ -21,6 +21,24 @@ TOKEN = re.compile(r"[^\s(){}\[\];,.:`\"'|]+")
 QUOTED = re.compile(r"(\"(?:[^\"\\\n]|\\.)*\")")
 LIBRARY = {"length", "take", "drop", "get_or", "set", "append", "map", "replicate"}
 
+# names that the rule would give badly: constructors and aliases that no line of their own declares, and fields that would have a lemma's name
+NAMED = {
+    "byUs": "closed_by_us",
+    "byPeer": "closed_by_peer",
+    "betweenFrames": "between_frames",
+    "sendText": "send_text",
+    "sendBinary": "send_binary",
+    "sendPing": "send_ping",
+    "sendPong": "send_pong",
+    "onLeft": "on_left",
+    "onRight": "on_right",
+    "firstByteOf": "first_byte_of",
+}
+IN_CRATE = {
+    "link": {"message-store": "message_room", "control-store": "control_room", "output-store": "output_room"},
+    "writer": {"in-range": "ranged"},
+}
+
 # lemmas that would have a function's name, where a function of src/ has the old one too: in these files alone
 IN_FILE = {
     "crates/link/proofs/FrameBack.antt": {"is_control": "control_kind"},
@@ -97,12 +115,12 @@ def respelled(text, to):
 def main():
     to = renamed()
     if "--list" in sys.argv[1:]:
-        for old in sorted(to):
-            print(f"{old} {to[old]}")
+        for old, new in sorted((to | NAMED).items()):
+            print(f"{old} {new}")
         return
     for path in files("crates/*/specs/**/*.antt", "crates/*/proofs/**/*.antt"):
         before = text_of(path)
-        after = respelled(before, to | IN_FILE.get(path, {}))
+        after = respelled(before, to | NAMED | IN_CRATE.get(path.split("/")[1], {}) | IN_FILE.get(path, {}))
         if after != before:
             with open(path, "w", encoding="utf-8") as f:
                 f.write(after)

@@ -26,7 +26,7 @@ use Rattle.session.specs.declared.Masks.{Masks}
 use Rattle.session.specs.declared.Session.{Session}
 use Rattle.session.specs.declared.Settings.{Settings}
 use Rattle.session.specs.Frames.{is_continue_kind, is_text_kind, is_close_kind, is_reserved, header_tests, before, doom_tests, reason_holds}
-use Rattle.session.specs.Reading.{World, world, At, after, between as betweenFrames, control_event, settle, feed, is_more}
+use Rattle.session.specs.Reading.{World, world, At, after, between as between_frames, control_event, settle, feed, is_more}
 use Rattle.session.specs.Replies.{frame_header, encoded, Out, move_reply, Concluded, conclude}
 use Rattle.session.specs.Session.{is_server, is_client, is_peer_closed, with_incoming}
 use Rattle.utf8.specs.Progress.{progress_after, is_whole}
@@ -193,7 +193,7 @@ module _ (s : Session) (masks : Masks) (m c o : List ℕ) (ready : Ready s masks
       → read_call s (encoded client (Data d) mask p) end masks m c o
       ≡ read
       (turn (data_event d (length p)) (length (encoded client (Data d) mask p))
-      (with_incoming (move_reply s masks.first o).session (betweenFrames (header_of_frame (Data d)) false false 0 0))) (laid m 0 p) c
+      (with_incoming (move_reply s masks.first o).session (between_frames (header_of_frame (Data d)) false false 0 0))) (laid m 0 p) c
       (move_reply s masks.first o).output
   unfolding flagged
   data_read_back d end fresh new most valid =
@@ -203,9 +203,9 @@ module _ (s : Session) (masks : Masks) (m c o : List ℕ) (ready : Ready s masks
       (begun_all s.incoming (header_bytes (frame_header client (Data d) (length p)) mask) ∙ new) most)
       valid (header-admitted s.settings s.state client (length p) to_server to_client heard (Data d) refl fits) in
       by_bytes s masks m c o (encoded client (Data d) mask p) end
-      (world (betweenFrames (header_of_frame (Data d)) false false 0 0) (laid m 0 p) c (data_event d (length p))) ready (data_answers d (length p)) back
+      (world (between_frames (header_of_frame (Data d)) false false 0 0) (laid m 0 p) c (data_event d (length p))) ready (data_answers d (length p)) back
       ∙ data_concluded d (length p) end (length (encoded client (Data d) mask p))
-      (with_incoming (move_reply s masks.first o).session (betweenFrames (header_of_frame (Data d)) false false 0 0)) (laid m 0 p) c (move_reply s masks.first o).output
+      (with_incoming (move_reply s masks.first o).session (between_frames (header_of_frame (Data d)) false false 0 0)) (laid m 0 p) c (move_reply s masks.first o).output
 
   -- a ping, a pong or a close: what its event leaves, as document 01 has it of that event
   pub control_read_back : (k : ControlKind) (end : Bool) → length p ≤ 125 → 125 ≤ length c → (is_close_kind k ≡ true → length p ≡ 1 → ⊥)
@@ -214,7 +214,7 @@ module _ (s : Session) (masks : Masks) (m c o : List ℕ) (ready : Ready s masks
       ≡ (let i : Incoming = header_of_frame (Control k) in
       let d : Concluded =
       conclude (control_event k (length p))
-      (with_incoming (move_reply s masks.first o).session (betweenFrames i i.begun i.text i.fragments i.progress)) (laid c 0 p) in
+      (with_incoming (move_reply s masks.first o).session (between_frames i i.begun i.text i.fragments i.progress)) (laid c 0 p) in
       read (flagged end d (length (encoded client (Control k) mask p))) m d.control (move_reply s masks.first o).output)
   control_read_back k end most room one valid =
       let i : Incoming = header_of_frame (Control k) in
@@ -223,4 +223,4 @@ module _ (s : Session) (masks : Masks) (m c o : List ℕ) (ready : Ready s masks
       (control_admitted s.settings s.state client (length p) to_server to_client heard k i most one) (omega arith) valid
       (header-admitted s.settings s.state client (length p) to_server to_client heard (Control k) refl fits) in
       by_bytes s masks m c o (encoded client (Control k) mask p) end
-      (world (betweenFrames i i.begun i.text i.fragments i.progress) m (laid c 0 p) (control_event k (length p))) ready (control_answers k (length p)) back
+      (world (between_frames i i.begun i.text i.fragments i.progress) m (laid c 0 p) (control_event k (length p))) ready (control_answers k (length p)) back

@@ -28,26 +28,26 @@ use Rattle.link.proofs.Frames.{Frame, wires, nothing, told, open_all, told_appen
 
 -- ---- the five states
 pub data Phase : Type 0 where
-  active byUs byPeer acked over : Phase
+  active closed_by_us closed_by_peer acked over : Phase
 
 abbrev pub number : Phase → ℕ
 number active = 0
-number byUs = 1
-number byPeer = 2
+number closed_by_us = 1
+number closed_by_peer = 2
 number acked = 3
 number over = 4
 
 abbrev pub is_over : Phase → Bool
 is_over active = false
-is_over byUs = false
-is_over byPeer = false
+is_over closed_by_us = false
+is_over closed_by_peer = false
 is_over acked = false
 is_over over = true
 
 pub over_number : (p : Phase) → is_over p ≡ eqb (number p) 4
 over_number active = refl
-over_number byUs = refl
-over_number byPeer = refl
+over_number closed_by_us = refl
+over_number closed_by_peer = refl
 over_number acked = refl
 over_number over = refl
 
@@ -56,12 +56,12 @@ abbrev pub Link : Phase → Waiting → Bool → Type 0
 Link active NoReply c = c ≡ false
 Link active PongReply c = c ≡ false
 Link active CloseReply c = ⊥
-Link byUs NoReply c = c ≡ true
-Link byUs PongReply c = ⊥
-Link byUs CloseReply c = ⊥
-Link byPeer NoReply c = c ≡ true
-Link byPeer PongReply c = ⊥
-Link byPeer CloseReply c = c ≡ false
+Link closed_by_us NoReply c = c ≡ true
+Link closed_by_us PongReply c = ⊥
+Link closed_by_us CloseReply c = ⊥
+Link closed_by_peer NoReply c = c ≡ true
+Link closed_by_peer PongReply c = ⊥
+Link closed_by_peer CloseReply c = c ≡ false
 Link acked NoReply c = c ≡ true
 Link acked PongReply c = ⊥
 Link acked CloseReply c = ⊥
@@ -70,8 +70,8 @@ Link over w c = Unit {0}
 -- how an end's state goes with whether it has got a close
 abbrev pub Heard : Phase → Bool → Type 0
 Heard active c = c ≡ false
-Heard byUs c = c ≡ false
-Heard byPeer c = c ≡ true
+Heard closed_by_us c = c ≡ false
+Heard closed_by_peer c = c ≡ true
 Heard acked c = c ≡ true
 Heard over c = Unit {0}
 

@@ -40,7 +40,7 @@ use Rattle.steady.proofs.OneCall.{outcome, flagged-answered, conclude-more}
 use Rattle.utf8.specs.Progress.{stepped, progress_after, is_whole}
 use Rattle.link.specs.System.{item, Side, counted, is_closed, reader, read_from}
 use Rattle.link.proofs.CallBack.{data_answers, control_answers}
-use Rattle.link.proofs.Direction.{Phase, active, byUs, byPeer, acked, over, number, is_over, Link, Heard, load_of, SoundClose, Sound, answers, Knows, knows_on, Kept, Inv}
+use Rattle.link.proofs.Direction.{Phase, active, closed_by_us, closed_by_peer, acked, over, number, is_over, Link, Heard, load_of, SoundClose, Sound, answers, Knows, knows_on, Kept, Inv}
 use Rattle.link.proofs.FrameBack.{data_event, front_laid}
 use Rattle.link.proofs.FrameRead.{event_of, Ends}
 use Rattle.link.proofs.Frames.{Frame, nothing, items_of, LoadFits, has_close}
@@ -92,10 +92,10 @@ part-is Closed m c p e h = e
 part-is (Refused n) m c p e h = e
 
 -- ---- the states in which an event may come
-open_phase : (p : Phase) (c : Bool) → is_over p ≡ false → Heard p c → c ≡ false → (p ≡ active) ⊎ (p ≡ byUs)
+open_phase : (p : Phase) (c : Bool) → is_over p ≡ false → Heard p c → c ≡ false → (p ≡ active) ⊎ (p ≡ closed_by_us)
 open_phase active c o h e = inl refl
-open_phase byUs c o h e = inr refl
-open_phase byPeer c o h e = never h e
+open_phase closed_by_us c o h e = inr refl
+open_phase closed_by_peer c o h e = never h e
 open_phase acked c o h e = never h e
 open_phase over c o h e = never refl o
 
@@ -136,7 +136,7 @@ conclude-kind (Close n) s control = close_kind s control n
 conclude-kind Closed s control = refl
 conclude-kind (Refused k) s control = refl
 
-link_acked : (w : Waiting) (c : Bool) → Link byUs w c → Link acked w c
+link_acked : (w : Waiting) (c : Bool) → Link closed_by_us w c → Link acked w c
 link_acked NoReply c h = h
 link_acked PongReply c h = h
 link_acked CloseReply c h = h
@@ -237,7 +237,7 @@ module _ (l r : Side) (v : Inv l r) (lives : is_over v.p ≡ false) (n : ℕ)
           (answers l.answers.handed [] (ap (λ (p : List ℕ). l.answers.handed ++ (item 4 p ∷ [])) (load ∙ sym (part-is (Ping size) m c f.load payload refl)))))
           (ap is_close is) (kept v.kept-l.unrefused))
 
-      by_us : v.p ≡ byUs → Aim (answer_with (is_active s.state))
+      by_us : v.p ≡ closed_by_us → Aim (answer_with (is_active s.state))
       by_us h =
           let state : s.state ≡ 1 = v.is_p ∙ ap number h in
           subst (λ (b : Bool). Aim (answer_with b)) (sym (ap (λ (k : ℕ). is_active k) state))
@@ -270,12 +270,12 @@ module _ (l r : Side) (v : Inv l r) (lives : is_over v.p ≡ false) (n : ℕ)
         let room : 125 ≤ length c = omega (arith, k.room.for_control, shown-size c size) in
         let sound : SoundClose echo = echo_sound c f.load room payload (fits.0, (fits.1 refl).0, (fits.1 refl).1) in
         let load : load_of q ≡ echo = load_set s.reply CloseReply echo v.kept-l.shaped.1 sound.0 in
-        event_inv l r v lives n e byPeer 2 refl q (shown_control c size) (Close (shown_length c size)) refl refl none_counted (waits (Control CloseFrame) is fits)
-        (subst (λ (w : Waiting). Link byPeer w (has_close v.lr.frames)) (sym kind) a.none)
+        event_inv l r v lives n e closed_by_peer 2 refl q (shown_control c size) (Close (shown_length c size)) refl refl none_counted (waits (Control CloseFrame) is fits)
+        (subst (λ (w : Waiting). Link closed_by_peer w (has_close v.lr.frames)) (sym kind) a.none)
         (subst (λ (w : Waiting). Sound w (load_of q)) (sym kind) (subst SoundClose (sym load) sound))
         (subst (λ (w : Waiting). Knows w (l.answers.handed ++ []) (load_of q)) (sym kind) tt) (ap is_close is) k
 
-    is_acknowledged : v.p ≡ byUs → Aim (given (acknowledged true))
+    is_acknowledged : v.p ≡ closed_by_us → Aim (given (acknowledged true))
     is_acknowledged h kept =
         let x = v.lr.sender in
         event_inv l r v lives n e acked 3 refl s.reply c (Close size) refl refl none_counted (waits (Control CloseFrame) is fits)

@@ -36,7 +36,7 @@ use Rattle.session.specs.declared.Incoming.{Incoming}
 use Rattle.session.specs.declared.Settings.{Settings}
 use Rattle.session.specs.Frames.{kept, header_whole, frame, is_control, is_close_kind, is_text, is_text_kind, is_continue_kind, header_tests, before, progress_now, doom_tests, doom, reason_holds, text_holds, utf_test, verdict}
 use Rattle.utf8.specs.Progress.{progress_after, is_whole}
-use Rattle.session.specs.Reading.{World, world, At, after, keep, counts, plain, stored, between as betweenFrames, control_event, ended, refuse, finish, rest, feed}
+use Rattle.session.specs.Reading.{World, world, At, after, keep, counts, plain, stored, between as between_frames, control_event, ended, refuse, finish, rest, feed}
 use Rattle.session.specs.Replies.{frame_header, encoded}
 use Rattle.session.proofs.Fold.{feed-append}
 use Rattle.steady.proofs.Headers.{never}
@@ -84,11 +84,11 @@ valid_data f j c Binary o e h v = rw o
 
 -- the end of a final data frame of a new message
 ended-data : (f : FrameHeader) (j : Incoming) (m c : List ℕ) (d : DataKind) → f.fin ≡ true → is_continue_kind d ≡ false → f.opcode ≡ Data d → j.begun ≡ false
-    → ended f (Data d) (world j m c More) ≡ world (betweenFrames j false false 0 0) m c (data_event d f.length)
+    → ended f (Data d) (world j m c More) ≡ world (between_frames j false false 0 0) m c (data_event d f.length)
 unfolding is_text before
 ended-data f j m c Continue e h o n = never refl h
-ended-data f j m c Text e h o n = rw (e, o, n) (ap (λ (k : ℕ). world (betweenFrames j false false 0 0) m c (TextEvent k)) (zero-add f.length))
-ended-data f j m c Binary e h o n = rw (e, o, n) (ap (λ (k : ℕ). world (betweenFrames j false false 0 0) m c (BinaryEvent k)) (zero-add f.length))
+ended-data f j m c Text e h o n = rw (e, o, n) (ap (λ (k : ℕ). world (between_frames j false false 0 0) m c (TextEvent k)) (zero-add f.length))
+ended-data f j m c Binary e h o n = rw (e, o, n) (ap (λ (k : ℕ). world (between_frames j false false 0 0) m c (BinaryEvent k)) (zero-add f.length))
 
 text_of : (f : FrameHeader) (j : Incoming) (d : DataKind) → f.opcode ≡ Data d → is_continue_kind d ≡ false → is_text_kind false d ≡ true → is_text f j ≡ true
 unfolding is_text
@@ -296,7 +296,7 @@ module _ (g : Settings) (state : ℕ) (client : Bool) (op : OpCode) (mask : List
 
     -- the frame ends with so much of it counted
     end_data : (j : Incoming) → frame j ≡ f → j.begun ≡ false → j.fragments ≡ come.fragments → (is_text_kind false d ≡ true → is_whole (progress_now j) ≡ true)
-        → finish g state (world j (laid m 0 p) c More) ≡ world (betweenFrames j false false 0 0) (laid m 0 p) c (data_event d (length p))
+        → finish g state (world j (laid m 0 p) c More) ≡ world (between_frames j false false 0 0) (laid m 0 p) c (data_event d (length p))
     end_data j e n x v =
         finish-on g state f (world j (laid m 0 p) c More) e
         (verdict-clear g state f j c
@@ -304,7 +304,7 @@ module _ (g : Settings) (state : ℕ) (client : Bool) (op : OpCode) (mask : List
         (valid_data f j c d (opcode_flag ∙ is-data) final fresh v))
         ∙ ap (λ (o : OpCode). ended f o (world j (laid m 0 p) c More)) (opcode_flag ∙ is-data)
         ∙ ended-data f j (laid m 0 p) c d final fresh (opcode_flag ∙ is-data) n
-        ∙ ap (λ (k : ℕ). world (betweenFrames j false false 0 0) (laid m 0 p) c (data_event d k)) length-flag
+        ∙ ap (λ (k : ℕ). world (between_frames j false false 0 0) (laid m 0 p) c (data_event d k)) length-flag
 
     progress_none : progress_now come ≡ 0
     unfolding progress_now
@@ -324,7 +324,7 @@ module _ (g : Settings) (state : ℕ) (client : Bool) (op : OpCode) (mask : List
         is_text_lem t = text_of (frame come) come d (ap (λ (x : FrameHeader). x.opcode) is_frame ∙ opcode_flag ∙ is-data) fresh t
 
     -- the message's event, with its payload in the message store
-    pub data_told : finish g state filled ≡ world (betweenFrames come false false 0 0) (laid m 0 p) c (data_event d (length p))
+    pub data_told : finish g state filled ≡ world (between_frames come false false 0 0) (laid m 0 p) c (data_event d (length p))
     data_told =
         by_test (eqb (length p) 0)
         (λ t.
@@ -340,7 +340,7 @@ module _ (g : Settings) (state : ℕ) (client : Bool) (op : OpCode) (mask : List
         (λ k. ap is_whole (progress_counted (some_bytes (length p) (eqb-false (length p) 0 t)) k) ∙ valid k))
 
     pub data_back : first_of (header_tests g f) ≡ 0
-        → feed g state (after (world i m c More) 0) bytes ≡ after (world (betweenFrames come false false 0 0) (laid m 0 p) c (data_event d (length p))) (length bytes)
+        → feed g state (after (world i m c More) 0) bytes ≡ after (world (between_frames come false false 0 0) (laid m 0 p) c (data_event d (length p))) (length bytes)
     data_back pass = frame-fed pass ∙ ap (λ (w : World). after w (length bytes)) data_told
 
   -- ---- a control frame
@@ -362,10 +362,10 @@ module _ (g : Settings) (state : ℕ) (client : Bool) (op : OpCode) (mask : List
         ∙ ap₂ (λ (l : List ℕ) (n : ℕ). world counted-control m (laid c n l) More) plain-sent none_counted
 
     abbrev after-control : World
-    after-control = world (betweenFrames come come.begun come.text come.fragments come.progress) m (laid c 0 p) (control_event k (length p))
+    after-control = world (between_frames come come.begun come.text come.fragments come.progress) m (laid c 0 p) (control_event k (length p))
 
     end_control : (j : Incoming) → frame j ≡ f → j.header ≡ come.header → SameMessage come j
-        → finish g state (world j m (laid c 0 p) More) ≡ world (betweenFrames j j.begun j.text j.fragments j.progress) m (laid c 0 p) (control_event k (length p))
+        → finish g state (world j m (laid c 0 p) More) ≡ world (between_frames j j.begun j.text j.fragments j.progress) m (laid c 0 p) (control_event k (length p))
     end_control j e h x =
         finish-on g state f (world j m (laid c 0 p) More) e
         (verdict-clear g state f j (laid c 0 p)
@@ -373,7 +373,7 @@ module _ (g : Settings) (state : ℕ) (client : Bool) (op : OpCode) (mask : List
         (valid_control f j (laid c 0 p) k (opcode_flag ∙ is-kind)
         (λ q. ap (λ (n : ℕ). reason_holds (take n (laid c 0 p))) length-flag ∙ ap reason_holds (front_laid c p room) ∙ valid q)))
         ∙ ap (λ (o : OpCode). ended f o (world j m (laid c 0 p) More)) (opcode_flag ∙ is-kind)
-        ∙ ap (λ (n : ℕ). world (betweenFrames j j.begun j.text j.fragments j.progress) m (laid c 0 p) (control_event k n)) length-flag
+        ∙ ap (λ (n : ℕ). world (between_frames j j.begun j.text j.fragments j.progress) m (laid c 0 p) (control_event k n)) length-flag
 
     pub control_told : finish g state filled ≡ after-control
     control_told =

@@ -24,7 +24,7 @@ use Rattle.session.specs.declared.Incoming.{Incoming}
 use Rattle.session.specs.declared.Settings.{Settings}
 use Rattle.session.specs.Answers.{shown}
 use Rattle.session.specs.Frames.{frame, doom_tests, doom, verdict}
-use Rattle.session.specs.Reading.{World, world, At, after, keep, between as betweenFrames, control_event, stored, finish, rest, settle, byte_in, is_more, step, feed}
+use Rattle.session.specs.Reading.{World, world, At, after, keep, between as between_frames, control_event, stored, finish, rest, settle, byte_in, is_more, step, feed}
 use Rattle.session.specs.Replies.{frame_header, encoded}
 use Rattle.session.specs.Session.{is_server, is_client, is_peer_closed}
 use Rattle.session.proofs.Choices.{both-none}
@@ -119,7 +119,7 @@ module _ (g : Settings) (client : Bool) (toward : Toward client g) (i : Incoming
       let f : FrameHeader = frame_header client (Data d) (length p) in
       let come : Incoming = keep_all i (header_bytes f mask) in
       record {
-        left = world (betweenFrames come false false 0 0) (laid m 0 p) c (data_event d (length p));
+        left = world (between_frames come false false 0 0) (laid m 0 p) c (data_event d (length p));
         leaves =
             record {
               between = record { header-size = header-kept i (header_bytes f mask) ∙ between.header-size; none_kept = refl; none_counted = refl };
@@ -141,7 +141,7 @@ module _ (g : Settings) (client : Bool) (toward : Toward client g) (i : Incoming
       let f : FrameHeader = frame_header client (Control k) (length p) in
       let come : Incoming = keep_all i (header_bytes f mask) in
       record {
-        left = world (betweenFrames come come.begun come.text come.fragments come.progress) m (laid c 0 p) (control_event k (length p));
+        left = world (between_frames come come.begun come.text come.fragments come.progress) m (laid c 0 p) (control_event k (length p));
         leaves =
             record {
               between = record { header-size = header-kept i (header_bytes f mask) ∙ between.header-size; none_kept = refl; none_counted = refl };

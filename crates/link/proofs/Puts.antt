@@ -25,7 +25,7 @@ use Rattle.session.proofs.Choices.{both-parts}
 use Rattle.steady.proofs.Headers.{never}
 use Rattle.steady.proofs.Parts.{range_held, range_reply}
 use Rattle.link.specs.System.{Item, End, Answers, Side}
-use Rattle.link.proofs.Direction.{Phase, active, byUs, byPeer, acked, over, number, is_over, Link, Heard, load_of, Sound, Knows, FrameKnows, AllKnow, know_append, Kept, held_of, Wire, Sender, Dir, hears, heard_as, Inv}
+use Rattle.link.proofs.Direction.{Phase, active, closed_by_us, closed_by_peer, acked, over, number, is_over, Link, Heard, load_of, Sound, Knows, FrameKnows, AllKnow, know_append, Kept, held_of, Wire, Sender, Dir, hears, heard_as, Inv}
 use Rattle.link.proofs.Frames.{Frame, wires, wires_append, one_wire, nothing, items_of, told, told_on, one_told, LoadFits, AllValid, valid_append, has_close, one_close, close_append, CloseLast, close_on, one_last}
 
 -- ---- an end of which a call left another session and output
@@ -182,13 +182,13 @@ module _ (l r : Side) (v : Inv l r) (fs : List Frame) (bytes : List ℕ) (is-byt
 reply_open : (p : Phase) (w : Waiting) (c : Bool) → is_over p ≡ false → waits w ≡ true → Link p w c → (c ≡ false) × Link p NoReply (is_close (reply_code w))
 reply_open p NoReply c o h k = never h refl
 reply_open active PongReply c o h k = (k, refl)
-reply_open byUs PongReply c o h k = absurd k
-reply_open byPeer PongReply c o h k = absurd k
+reply_open closed_by_us PongReply c o h k = absurd k
+reply_open closed_by_peer PongReply c o h k = absurd k
 reply_open acked PongReply c o h k = absurd k
 reply_open over PongReply c o h k = never refl o
 reply_open active CloseReply c o h k = absurd k
-reply_open byUs CloseReply c o h k = absurd k
-reply_open byPeer CloseReply c o h k = (k, refl)
+reply_open closed_by_us CloseReply c o h k = absurd k
+reply_open closed_by_peer CloseReply c o h k = (k, refl)
 reply_open acked CloseReply c o h k = absurd k
 reply_open over CloseReply c o h k = never refl o
 

@@ -28,7 +28,7 @@ use Rattle.session.specs.declared.Session.{Session}
 use Rattle.session.specs.declared.Waiting.{Waiting}
 use Rattle.session.specs.declared.Waiting.TheVariants.{Nothing as NoReply, Pong as PongReply, Close as CloseReply}
 use Rattle.session.specs.Frames.{is_close_kind, reason_holds}
-use Rattle.session.specs.Reading.{between as betweenFrames, control_event}
+use Rattle.session.specs.Reading.{between as between_frames, control_event}
 use Rattle.session.specs.Replies.{frame_header, encoded, is_close_reply, reply_code, reply_frame, Concluded, conclude, move_reply}
 use Rattle.session.specs.Session.{is_server, is_client, is_peer_closed, with_incoming}
 use Rattle.utf8.specs.Progress.{progress_after, is_whole}
@@ -76,7 +76,7 @@ module _ (s : Session) (p : List ℕ) (given : Masks) (output : List ℕ) (four 
       → read_call r (put_out s (frame_of (Data TextFrame)) (text_call s p given output)) end masks m c o
       ≡ read
       (turn (Text (length p)) (length (frame_of (Data TextFrame)))
-      (with_incoming (move_reply r masks.first o).session (betweenFrames (come (Data TextFrame)) false false 0 0))) (laid m 0 p) c
+      (with_incoming (move_reply r masks.first o).session (between_frames (come (Data TextFrame)) false false 0 0))) (laid m 0 p) c
       (move_reply r masks.first o).output
   unfolding text_call
   text_reads_back h new most =
@@ -92,7 +92,7 @@ module _ (s : Session) (p : List ℕ) (given : Masks) (output : List ℕ) (four 
       → read_call r (put_out s (frame_of (Data BinaryFrame)) (binary_call s p given output)) end masks m c o
       ≡ read
       (turn (Binary (length p)) (length (frame_of (Data BinaryFrame)))
-      (with_incoming (move_reply r masks.first o).session (betweenFrames (come (Data BinaryFrame)) false false 0 0))) (laid m 0 p) c
+      (with_incoming (move_reply r masks.first o).session (between_frames (come (Data BinaryFrame)) false false 0 0))) (laid m 0 p) c
       (move_reply r masks.first o).output
   unfolding binary_call
   binary_reads_back h new most =
@@ -107,7 +107,7 @@ module _ (s : Session) (p : List ℕ) (given : Masks) (output : List ℕ) (four 
       let i : Incoming = come (Control k) in
       let d : Concluded =
       conclude (control_event k (length p))
-      (with_incoming (move_reply r masks.first o).session (betweenFrames i i.begun i.text i.fragments i.progress)) (laid c 0 p) in
+      (with_incoming (move_reply r masks.first o).session (between_frames i i.begun i.text i.fragments i.progress)) (laid c 0 p) in
       read (flagged end d (length (frame_of (Control k)))) m d.control (move_reply r masks.first o).output
 
   -- a ping

@@ -29,7 +29,7 @@ use Rattle.steady.proofs.Headers.{Waits, never}
 use Rattle.steady.proofs.Frames.{FineWorld}
 use Rattle.steady.proofs.InRangeStays.{fed, fed-fine}
 use Rattle.link.specs.System.{Item, End, Side, ended, counted, is_closed, reader, read_from}
-use Rattle.link.proofs.Direction.{Phase, active, byUs, byPeer, acked, over, number, is_over, over_number, Link, Heard, load_of, Sound, Knows, knows_on, all_on, Kept, held_of, Reader, Dir, Fin, Inv}
+use Rattle.link.proofs.Direction.{Phase, active, closed_by_us, closed_by_peer, acked, over, number, is_over, over_number, Link, Heard, load_of, Sound, Knows, knows_on, all_on, Kept, held_of, Reader, Dir, Fin, Inv}
 use Rattle.link.proofs.FrameRead.{spot_between, Within, Ends, Came, within, spot_whole, came, came_none, feed-open}
 use Rattle.link.proofs.Frames.{Frame, wires, nothing, items_of, told, told_on, one_told, Valid, AllValid, valid_front, valid_behind, closes, has_close, one_close, close_append, CloseLast, close_ends}
 
@@ -43,25 +43,25 @@ said_before b c e h = said_still b (ap (either b) (sym e) ∙ h)
 
 pub heard_closed : (p : Phase) (c : Bool) → is_peer_closed (number p) ≡ true → Heard p c → c ≡ true
 heard_closed active c z h = never z refl
-heard_closed byUs c z h = never z refl
-heard_closed byPeer c z h = h
+heard_closed closed_by_us c z h = never z refl
+heard_closed closed_by_peer c z h = h
 heard_closed acked c z h = h
 heard_closed over c z h = never z refl
 
 pub heard_open : (p : Phase) (c : Bool) → is_over p ≡ false → is_peer_closed (number p) ≡ false → Heard p c → c ≡ false
 heard_open active c o z h = h
-heard_open byUs c o z h = h
-heard_open byPeer c o z h = never refl z
+heard_open closed_by_us c o z h = h
+heard_open closed_by_peer c o z h = never refl z
 heard_open acked c o z h = never refl z
 heard_open over c o z h = never refl o
 
 -- an end that has got a close, and whose own does not wait, has put it out
 pub link_closed : (p : Phase) (w : Waiting) (c : Bool) → is_peer_closed (number p) ≡ true → is_close_reply w ≡ false → Link p w c → c ≡ true
 link_closed active w c z k h = never z refl
-link_closed byUs w c z k h = never z refl
-link_closed byPeer NoReply c z k h = h
-link_closed byPeer PongReply c z k h = absurd h
-link_closed byPeer CloseReply c z k h = never refl k
+link_closed closed_by_us w c z k h = never z refl
+link_closed closed_by_peer NoReply c z k h = h
+link_closed closed_by_peer PongReply c z k h = absurd h
+link_closed closed_by_peer CloseReply c z k h = never refl k
 link_closed acked NoReply c z k h = h
 link_closed acked PongReply c z k h = absurd h
 link_closed acked CloseReply c z k h = never refl k

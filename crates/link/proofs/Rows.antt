@@ -22,7 +22,7 @@ use Rattle.session.specs.Session.{is_terminated}
 use Rattle.steady.proofs.Headers.{never}
 use Rattle.steady.specs.Taking.{is_done}
 use Rattle.link.specs.Demand.{Fit, Allowed, AllowedTurn, AllAllowed, Still, AtRest}
-use Rattle.link.specs.System.{Item, End, Side, System, Keys, Lends, Act, sendText, sendBinary, sendPing, sendPong, send_close, takes, reads, cuts, text_to, binary_to, ping_to, pong_to, close_to, offered, ended, read_by, swap, Turn, onLeft, onRight, next, run, outset}
+use Rattle.link.specs.System.{Item, End, Side, System, Keys, Lends, Act, send_text, send_binary, send_ping, send_pong, send_close, takes, reads, cuts, text_to, binary_to, ping_to, pong_to, close_to, offered, ended, read_by, swap, Turn, on_left, on_right, next, run, outset}
 
 -- ---- the two ends: limits that differ, and the least stores. An output store of 131 bytes is full with one frame of a client's 125 bytes,
 -- or of a server's 127
@@ -51,12 +51,12 @@ server =
 pub client_fit : Fit client
 unfolding client limits_hold
 client_fit =
-    record { limits = refl; wide = leb→le _ _ tt; message_store_lem = leb→le _ _ tt; control_store_lem = leb→le _ _ tt; output_store_lem = leb→le _ _ tt }
+    record { limits = refl; wide = leb→le _ _ tt; message_room = leb→le _ _ tt; control_room = leb→le _ _ tt; output_room = leb→le _ _ tt }
 
 pub server_fit : Fit server
 unfolding server limits_hold
 server_fit =
-    record { limits = refl; wide = leb→le _ _ tt; message_store_lem = leb→le _ _ tt; control_store_lem = leb→le _ _ tt; output_store_lem = leb→le _ _ tt }
+    record { limits = refl; wide = leb→le _ _ tt; message_room = leb→le _ _ tt; control_room = leb→le _ _ tt; output_room = leb→le _ _ tt }
 
 unfoldable pub start : System
 start = outset client server
@@ -69,10 +69,10 @@ pub data Told : Type 0 where
   silent : Told
 
 abbrev pub told_by : System → Act → Told
-told_by s (sendText p k) = says (text_to s.left.end p k).handed.sent
-told_by s (sendBinary p k) = says (binary_to s.left.end p k).handed.sent
-told_by s (sendPing p k) = says (ping_to s.left.end p k).handed.sent
-told_by s (sendPong p k) = says (pong_to s.left.end p k).handed.sent
+told_by s (send_text p k) = says (text_to s.left.end p k).handed.sent
+told_by s (send_binary p k) = says (binary_to s.left.end p k).handed.sent
+told_by s (send_ping p k) = says (ping_to s.left.end p k).handed.sent
+told_by s (send_pong p k) = says (pong_to s.left.end p k).handed.sent
 told_by s (send_close code reason k) = says (close_to s.left.end code reason k).handed.sent
 told_by s (takes n) = says (take_call s.left.end.session n s.left.end.output).handed.sent
 told_by s (reads n flag k) =
@@ -80,8 +80,8 @@ told_by s (reads n flag k) =
 told_by s (cuts n) = silent
 
 abbrev pub told_at : System → Turn → Told
-told_at s (onLeft a) = told_by s a
-told_at s (onRight a) = told_by (swap s) a
+told_at s (on_left a) = told_by s a
+told_at s (on_right a) = told_by (swap s) a
 
 unfoldable pub told_all : System → List Turn → List Told
 told_all s [] = []
@@ -109,10 +109,10 @@ key =
     record { first = record { a = 0x37; b = 0xfa; c = 0x21; d = 0x3d }; second = record { a = 0x01; b = 0x02; c = 0x03; d = 0x04 } }
 
 abbrev pub by_client : Act → Told → Row
-by_client a t = onLeft a ⇒ t
+by_client a t = on_left a ⇒ t
 
 abbrev pub by_server : Act → Told → Row
-by_server a t = onRight a ⇒ t
+by_server a t = on_right a ⇒ t
 
 -- a read that is offered all that is on the pipe; and the same with the end flag, where the pipe ends
 abbrev pub reads_all : Act
@@ -195,18 +195,18 @@ abbrev pub none_waits : End → Sending → Bool
 none_waits e u = either (not (is_done u.handed.sent)) (not (waits_call e.session))
 
 abbrev pub is_allowed : System → Act → Bool
-is_allowed s (sendText p k) = fits_other s.right.end (text_to s.left.end p k) p
-is_allowed s (sendBinary p k) = fits_other s.right.end (binary_to s.left.end p k) p
-is_allowed s (sendPing p k) = true
-is_allowed s (sendPong p k) = true
+is_allowed s (send_text p k) = fits_other s.right.end (text_to s.left.end p k) p
+is_allowed s (send_binary p k) = fits_other s.right.end (binary_to s.left.end p k) p
+is_allowed s (send_ping p k) = true
+is_allowed s (send_pong p k) = true
 is_allowed s (send_close code reason k) = none_waits s.left.end (close_to s.left.end code reason k)
 is_allowed s (takes n) = true
 is_allowed s (reads n flag k) = true
 is_allowed s (cuts n) = true
 
 abbrev pub is_allowed_turn : System → Turn → Bool
-is_allowed_turn s (onLeft a) = is_allowed s a
-is_allowed_turn s (onRight a) = is_allowed (swap s) a
+is_allowed_turn s (on_left a) = is_allowed s a
+is_allowed_turn s (on_right a) = is_allowed (swap s) a
 
 unfoldable pub are_allowed : System → List Turn → Bool
 are_allowed s [] = true
@@ -225,14 +225,14 @@ nothing_waits true waits t e = not-true waits t
 nothing_waits false waits t e = never e refl
 
 act_allowed : (s : System) (a : Act) → is_allowed s a ≡ true → Allowed s a
-act_allowed s (sendText p k) t =
+act_allowed s (send_text p k) t =
     within-limits (is_done (text_to s.left.end p k).handed.sent) (length p) s.right.end.session.settings.frame
     s.right.end.session.settings.message t
-act_allowed s (sendBinary p k) t =
+act_allowed s (send_binary p k) t =
     within-limits (is_done (binary_to s.left.end p k).handed.sent) (length p) s.right.end.session.settings.frame
     s.right.end.session.settings.message t
-act_allowed s (sendPing p k) t = tt
-act_allowed s (sendPong p k) t = tt
+act_allowed s (send_ping p k) t = tt
+act_allowed s (send_pong p k) t = tt
 act_allowed s (send_close code reason k) t =
     nothing_waits (is_done (close_to s.left.end code reason k).handed.sent) (waits_call s.left.end.session) t
 act_allowed s (takes n) t = tt
@@ -240,8 +240,8 @@ act_allowed s (reads n flag k) t = tt
 act_allowed s (cuts n) t = tt
 
 turn-allowed : (s : System) (x : Turn) → is_allowed_turn s x ≡ true → AllowedTurn s x
-turn-allowed s (onLeft a) t = act_allowed s a t
-turn-allowed s (onRight a) t = act_allowed (swap s) a t
+turn-allowed s (on_left a) t = act_allowed s a t
+turn-allowed s (on_right a) t = act_allowed (swap s) a t
 
 pub all_allowed : (s : System) (turns : List Turn) → are_allowed s turns ≡ true → AllAllowed s turns
 unfolding are_allowed AllAllowed

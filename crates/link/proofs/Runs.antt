@@ -11,7 +11,7 @@ use Rattle.base.specs.Tests.{first_of}
 use Rattle.coding.specs.CloseCodes.{allowed}
 use Rattle.coding.specs.Opcodes.{opcode_of}
 use Rattle.frame.specs.Close.{close_of, close_bytes, violation}
-use Rattle.frame.specs.Header.{first_of as firstByteOf, second_of, extra_bytes, length_of, size_by, missing, header_of, mask_in, length_code, length_bytes, first_byte, second_byte, header_bytes}
+use Rattle.frame.specs.Header.{first_of as first_byte_of, second_of, extra_bytes, length_of, size_by, missing, header_of, mask_in, length_code, length_bytes, first_byte, second_byte, header_bytes}
 use Rattle.mask.specs.Mask.{masked}
 use Rattle.session.specs.Answers.{beyond, part_of}
 use Rattle.session.specs.Calls.{no_incoming, empty_reply, fresh, new_call, output_short, stores_short, read_tests, flagged, take_bytes, read_on, read_call, send_tests, send_frame, text_call, binary_call, ping_call, close_call, pong_call, waits_call, held_number, held_part, take_tests, take_call}
@@ -24,7 +24,7 @@ use Rattle.session.specs.Reading.{keep, plain, stored, refuse, finish, rest, set
 use Rattle.session.specs.Replies.{frame_header, encoded, fits, reply_of, with_pong, no_reply, reply_frame, appended, move_reply, shown_length, shown_control, close_came, ping_came}
 use Rattle.utf8.specs.Progress.{stepped, progress_after, is_whole, is_beginning}
 use Rattle.link.specs.Demand.{Fit, AtRest}
-use Rattle.link.specs.System.{Item, item, sendText, sendBinary, sendPing, sendPong, send_close, takes, reads, cuts, sent, given_bytes, taken, cut_at, ended, read_by, reader, read_from, done, next, run, fresh_side, outset}
+use Rattle.link.specs.System.{Item, item, send_text, send_binary, send_ping, send_pong, send_close, takes, reads, cuts, sent, given_bytes, taken, cut_at, ended, read_by, reader, read_from, done, next, run, fresh_side, outset}
 use Rattle.link.proofs.Rows.{client, client_fit, server, server_fit, start, gives, silent, told_all, Row, turns_of, answers_of, after, key, by_client, by_server, reads_all, reads_to_end, accepted, refused, left_of, active, terminated, closed_with, unclosed, are_allowed, Shows, shows, is_at_rest, at_rest}
 
 abbrev pub hi : List ℕ
@@ -44,12 +44,12 @@ ping p = item 4 p
 -- and so is the pong. The server answers the close and says closed; the client reads all of it, and says closed where the pipe ends.
 unfoldable pub client_closes : List Row
 client_closes =
-    by_client (sendText hi key) accepted
+    by_client (send_text hi key) accepted
     ∷ by_client (takes 8) accepted
     ∷ by_server (reads 3 false key) (gives More 3)
     ∷ by_server reads_all (gives (Text 2) 5)
-    ∷ by_server (sendBinary (0x00 ∷ 0xff ∷ []) key) accepted
-    ∷ by_client (sendPing (0x21 ∷ []) key) accepted
+    ∷ by_server (send_binary (0x00 ∷ 0xff ∷ []) key) accepted
+    ∷ by_client (send_ping (0x21 ∷ []) key) accepted
     ∷ by_client (send_close (Code 1000) [] key) accepted
     ∷ by_client (takes 15) accepted
     ∷ by_server reads_all (gives (Ping 1) 7)
@@ -66,10 +66,10 @@ client_closes =
 -- A ping of the client crosses the server's close. It is handed out and not answered. The client's echo moves with its next read.
 unfoldable pub server_closes : List Row
 server_closes =
-    by_server (sendText (0x79 ∷ []) key) accepted
+    by_server (send_text (0x79 ∷ []) key) accepted
     ∷ by_server (send_close Empty [] key) accepted
     ∷ by_server (takes 5) accepted
-    ∷ by_client (sendPing [] key) accepted
+    ∷ by_client (send_ping [] key) accepted
     ∷ by_client (takes 6) accepted
     ∷ by_client reads_all (gives (Text 1) 3)
     ∷ by_client reads_all (gives (Close 0) 2)
@@ -84,7 +84,7 @@ server_closes =
 -- ---- closes that cross: both ends have closed before either reads
 unfoldable pub closes_cross : List Row
 closes_cross =
-    by_client (sendBinary (0x01 ∷ []) key) accepted
+    by_client (send_binary (0x01 ∷ []) key) accepted
     ∷ by_client (send_close (Code 1000) [] key) accepted
     ∷ by_server (send_close (Code 1001) (0x6f ∷ 0x6b ∷ []) key) accepted
     ∷ by_server (takes 6) accepted
@@ -101,11 +101,11 @@ closes_cross =
 -- first one out, and the end is 16.
 unfoldable pub cut_in_header : List Row
 cut_in_header =
-    by_client (sendText (0x61 ∷ []) key) accepted
-    ∷ by_client (sendText (0x62 ∷ []) key) accepted
+    by_client (send_text (0x61 ∷ []) key) accepted
+    ∷ by_client (send_text (0x62 ∷ []) key) accepted
     ∷ by_client (takes 14) accepted
     ∷ by_client (cuts 10) silent
-    ∷ by_client (sendText (0x63 ∷ []) key) accepted
+    ∷ by_client (send_text (0x63 ∷ []) key) accepted
     ∷ by_client (takes 7) accepted
     ∷ by_server reads_to_end (gives (Text 1) 7)
     ∷ by_server reads_to_end (gives (Refused 16) 3)
@@ -116,7 +116,7 @@ cut_in_header =
 -- The end flag comes with the last byte of what is left, and not before.
 unfoldable pub cut_in_payload : List Row
 cut_in_payload =
-    by_server (sendBinary (0x01 ∷ 0x02 ∷ 0x03 ∷ 0x04 ∷ 0x05 ∷ []) key) accepted
+    by_server (send_binary (0x01 ∷ 0x02 ∷ 0x03 ∷ 0x04 ∷ 0x05 ∷ []) key) accepted
     ∷ by_server (takes 7) accepted
     ∷ by_server (cuts 4) silent
     ∷ by_client (reads 3 true key) (gives More 3)
@@ -127,12 +127,12 @@ cut_in_payload =
 -- The first piece ends inside the character, and is read before the second is taken. A ping behind it stays on the pipe, unread.
 unfoldable pub character_cut : List Row
 character_cut =
-    by_client (sendText (0xc3 ∷ 0xa9 ∷ []) key) accepted
+    by_client (send_text (0xc3 ∷ 0xa9 ∷ []) key) accepted
     ∷ by_client (takes 7) accepted
     ∷ by_server reads_all (gives More 7)
     ∷ by_client (takes 1) accepted
     ∷ by_server reads_all (gives (Text 2) 1)
-    ∷ by_client (sendPing [] key) accepted
+    ∷ by_client (send_ping [] key) accepted
     ∷ by_client (takes 6) accepted
     ∷ []
 
@@ -140,12 +140,12 @@ character_cut =
 -- The client's message fills its output. It reads a ping; the pong waits, also in the next read, and no other frame has room.
 unfoldable pub pong_waits : List Row
 pong_waits =
-    by_client (sendBinary (replicate 125 7) key) accepted
-    ∷ by_server (sendPing (0x41 ∷ []) key) accepted
+    by_client (send_binary (replicate 125 7) key) accepted
+    ∷ by_server (send_ping (0x41 ∷ []) key) accepted
     ∷ by_server (takes 3) accepted
     ∷ by_client reads_all (gives (Ping 1) 3)
     ∷ by_client reads_all (gives More 0)
-    ∷ by_client (sendText [] key) (refused 19)
+    ∷ by_client (send_text [] key) (refused 19)
     ∷ []
 
 -- Once the output is taken, it moves with the next call.
@@ -163,7 +163,7 @@ pong_moves =
 -- The server's message fills its output when the client's close comes. It is refused with 19 until that is taken, and then says closed.
 unfoldable pub echo_waits : List Row
 echo_waits =
-    by_server (sendBinary (replicate 127 7) key) accepted
+    by_server (send_binary (replicate 127 7) key) accepted
     ∷ by_client (send_close Empty [] key) accepted
     ∷ by_client (takes 6) accepted
     ∷ by_server reads_all (gives (Close 0) 6)
@@ -182,19 +182,19 @@ echo_waits =
 unfoldable pub refused_calls : List Row
 refused_calls =
     by_client (takes 1) (refused 20)
-    ∷ by_server (sendPong (0x70 ∷ []) key) accepted
+    ∷ by_server (send_pong (0x70 ∷ []) key) accepted
     ∷ by_server (takes 4) (refused 20)
-    ∷ by_server (sendText (0xff ∷ []) key) (refused 18)
+    ∷ by_server (send_text (0xff ∷ []) key) (refused 18)
     ∷ by_client (send_close (Code 1000) [] key) accepted
-    ∷ by_client (sendText hi key) (refused 17)
-    ∷ by_client (sendBinary (replicate 126 0) key) (refused 17)
-    ∷ by_client (sendPong [] key) (refused 17)
+    ∷ by_client (send_text hi key) (refused 17)
+    ∷ by_client (send_binary (replicate 126 0) key) (refused 17)
+    ∷ by_client (send_pong [] key) (refused 17)
     ∷ by_client (takes 8) accepted
     ∷ by_server (takes 3) accepted
     ∷ by_client reads_all (gives (Pong 1) 3)
     ∷ by_server reads_all (gives (Close 2) 8)
     ∷ by_server reads_all (gives Closed 0)
-    ∷ by_server (sendText hi key) (refused 2)
+    ∷ by_server (send_text hi key) (refused 2)
     ∷ by_server (takes 4) accepted
     ∷ by_client reads_to_end (gives (Close 2) 4)
     ∷ by_client reads_to_end (gives Closed 0)
@@ -248,7 +248,7 @@ pub record AllShown : Type 0 where
   pub refused_calls_rests : AtRest (after refused_calls)
 
 pub all_shown : AllShown
-unfolding client_closes server_closes closes_cross cut_in_header cut_in_payload character_cut pong_waits pong_moves echo_waits refused_calls client server start told_all turns_of answers_of after left_of are_allowed is_at_rest sent given_bytes taken cut_at ended read_by reader read_from done next run fresh_side outset no_incoming empty_reply fresh new_call output_short stores_short read_tests flagged take_bytes read_on read_call send_tests send_frame text_call binary_call ping_call close_call pong_call waits_call held_number held_part take_tests take_call beyond part_of part from_big to_big laid value_at first_of allowed opcode_of close_of close_bytes violation firstByteOf second_of extra_bytes length_of size_by missing header_of mask_in length_code length_bytes first_byte second_byte header_bytes masked header_whole frame is_text header_tests before progress_now doom_tests doom reason_holds text_holds utf_test verdict limits_hold settings_hold header_holds count_holds incoming_holds reply_holds numbers_hold range_of in_range keep plain stored refuse finish rest settle byte_in step feed frame_header encoded fits reply_of with_pong no_reply reply_frame appended move_reply shown_length shown_control close_came ping_came stepped progress_after is_whole is_beginning
+unfolding client_closes server_closes closes_cross cut_in_header cut_in_payload character_cut pong_waits pong_moves echo_waits refused_calls client server start told_all turns_of answers_of after left_of are_allowed is_at_rest sent given_bytes taken cut_at ended read_by reader read_from done next run fresh_side outset no_incoming empty_reply fresh new_call output_short stores_short read_tests flagged take_bytes read_on read_call send_tests send_frame text_call binary_call ping_call close_call pong_call waits_call held_number held_part take_tests take_call beyond part_of part from_big to_big laid value_at first_of allowed opcode_of close_of close_bytes violation first_byte_of second_of extra_bytes length_of size_by missing header_of mask_in length_code length_bytes first_byte second_byte header_bytes masked header_whole frame is_text header_tests before progress_now doom_tests doom reason_holds text_holds utf_test verdict limits_hold settings_hold header_holds count_holds incoming_holds reply_holds numbers_hold range_of in_range keep plain stored refuse finish rest settle byte_in step feed frame_header encoded fits reply_of with_pong no_reply reply_frame appended move_reply shown_length shown_control close_came ping_came stepped progress_after is_whole is_beginning
 all_shown =
     record {
       client_fits = client_fit;

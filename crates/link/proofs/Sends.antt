@@ -35,7 +35,7 @@ use Rattle.steady.proofs.Passing.{send_passed}
 use Rattle.utf8.specs.Progress.{progress_after, is_whole}
 use Rattle.link.specs.Demand.{FitsOther, NoneWaits}
 use Rattle.link.specs.System.{Item, item, End, Answers, Side, Keys, four, masks, sent, text_to, binary_to, ping_to, pong_to, close_to}
-use Rattle.link.proofs.Direction.{Phase, active, byUs, byPeer, acked, over, number, is_over, over_number, Link, Heard, load_of, Sound, caller, Knows, FrameKnows, speaks, hears, heard_as, Inv}
+use Rattle.link.proofs.Direction.{Phase, active, closed_by_us, closed_by_peer, acked, over, number, is_over, over_number, Link, Heard, load_of, Sound, caller, Knows, FrameKnows, speaks, hears, heard_as, Inv}
 use Rattle.link.proofs.FrameBack.{front_laid}
 use Rattle.link.proofs.Frames.{Frame, bytes_of, one_wire, nothing, items_of, one_told, LoadFits, has_close, either-none, one_close, one_last}
 use Rattle.link.proofs.Puts.{out_end, at_out, mk_live, put_inv, move_inv}
@@ -45,8 +45,8 @@ use Rattle.link.proofs.Sent.{Way, refused, goes_out, way}
 -- ---- the state that a call finds
 pub active_is : (p : Phase) → is_active (number p) ≡ true → p ≡ active
 active_is active e = refl
-active_is byUs e = never e refl
-active_is byPeer e = never e refl
+active_is closed_by_us e = never e refl
+active_is closed_by_peer e = never e refl
 active_is acked e = never e refl
 active_is over e = never e refl
 
@@ -181,7 +181,7 @@ module _ (l r : Side) (v : Inv l r) (k : Keys) where
       let few : length p ≤ 125 = ltb-false 125 (length p) fine in
       stays (Control PingFrame) (ltb 125 (length p)) p (item 4 p ∷ []) refl a (omega (arith, v.kept-r.wide)) (few, λ t. never t refl) refl tt)
 
-  none_waits_lem : (w : Waiting) → waits w ≡ false → Link byUs w true
+  none_waits_lem : (w : Waiting) → waits w ≡ false → Link closed_by_us w true
   none_waits_lem NoReply h = refl
   none_waits_lem PongReply h = never refl h
   none_waits_lem CloseReply h = never refl h
@@ -192,7 +192,7 @@ module _ (l r : Side) (v : Inv l r) (k : Keys) where
       let p : List ℕ = closing_bytes code reason in
       let whole : Bool = is_whole (progress_after 0 (drop 2 p)) in
       let bad : Bool = either (ltb 125 (length p)) (not whole) in
-      frame-inv l r v (Control CloseFrame) bad p k [] true 1 byUs
+      frame-inv l r v (Control CloseFrame) bad p k [] true 1 closed_by_us
       (λ now fine is-sent a.
       let e = either-not (ltb 125 (length p)) (not whole) fine in
       let few : length p ≤ 125 = ltb-false 125 (length p) e.0 in

@@ -18,7 +18,7 @@ use Rattle.steady.specs.Shape.{Shaped}
 use Rattle.steady.proofs.Headers.{never}
 use Rattle.steady.proofs.InRangeStays.{shape_new}
 use Rattle.link.specs.Demand.{Fit, Allowed, AllowedTurn, AllAllowed, FirstOf, Refusals, AtRest}
-use Rattle.link.specs.System.{End, Side, System, Keys, Lends, Act, sendText, sendBinary, sendPing, sendPong, send_close, takes, reads, cuts, read_by, done, swap, Turn, onLeft, onRight, next, run, fresh_side, outset}
+use Rattle.link.specs.System.{End, Side, System, Keys, Lends, Act, send_text, send_binary, send_ping, send_pong, send_close, takes, reads, cuts, read_by, done, swap, Turn, on_left, on_right, next, run, fresh_side, outset}
 use Rattle.link.proofs.Direction.{active, Kept, Dir, Inv, inv_swap, first_dir, said_dir}
 use Rattle.link.proofs.FrameRead.{Toward, spot_between}
 use Rattle.link.proofs.Frames.{Frame, wires, told, AllValid}
@@ -31,10 +31,10 @@ use Rattle.link.proofs.Takes.{take-inv, cut_inv, shown-held}
 -- ---- every act keeps the invariant
 act_inv : (s : System) (a : Act) → Allowed s a → Inv s.left s.right → Inv (done s a).left (done s a).right
 unfolding done
-act_inv s (sendText p k) good v = text_inv s.left s.right v k p good
-act_inv s (sendBinary p k) good v = binary_inv s.left s.right v k p good
-act_inv s (sendPing p k) good v = ping_inv s.left s.right v k p
-act_inv s (sendPong p k) good v = pong_inv s.left s.right v p k
+act_inv s (send_text p k) good v = text_inv s.left s.right v k p good
+act_inv s (send_binary p k) good v = binary_inv s.left s.right v k p good
+act_inv s (send_ping p k) good v = ping_inv s.left s.right v k p
+act_inv s (send_pong p k) good v = pong_inv s.left s.right v p k
 act_inv s (send_close code reason k) good v = close_inv s.left s.right v k code reason good
 act_inv s (takes n) good v = take-inv s.left s.right v n
 act_inv s (reads n flag k) good v = read-inv s.left s.right v n flag k
@@ -42,8 +42,8 @@ act_inv s (cuts n) good v = cut_inv s.left s.right v n
 
 next-inv : (s : System) (t : Turn) → AllowedTurn s t → Inv s.left s.right → Inv (next s t).left (next s t).right
 unfolding next
-next-inv s (onLeft a) good v = act_inv s a good v
-next-inv s (onRight a) good v = inv_swap _ _ (act_inv (swap s) a good (inv_swap _ _ v))
+next-inv s (on_left a) good v = act_inv s a good v
+next-inv s (on_right a) good v = inv_swap _ _ (act_inv (swap s) a good (inv_swap _ _ v))
 
 run-inv : (s : System) (ts : List Turn) → AllAllowed s ts → Inv s.left s.right → Inv (run s ts).left (run s ts).right
 unfolding run AllAllowed
@@ -94,7 +94,7 @@ fresh_kept role g fit =
       ranged = subst (λ (s : Session). in_range s ≡ true) (new_is role g fit.limits) (new_range role g.frame g.message g.unmasked);
       unrefused = refl;
       room =
-          record { for_message = fit.message_store_lem; for_control = fit.control_store_lem; for_output = fit.output_store_lem; for_held = omega arith };
+          record { for_message = fit.message_room; for_control = fit.control_room; for_output = fit.output_room; for_held = omega arith };
       wide = fit.wide;
     }
 
@@ -129,7 +129,7 @@ fresh-dir x y g h fit toward =
           };
       reader =
           record {
-            spot = spot_between (settings y h) no_incoming h.message_store h.control_store between_first refl fit.message_store_lem fit.control_store_lem;
+            spot = spot_between (settings y h) no_incoming h.message_store h.control_store between_first refl fit.message_room fit.control_room;
             waits = λ e. never e (unread no_incoming between_first);
             hands = refl;
             heard = refl;

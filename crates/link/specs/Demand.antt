@@ -8,7 +8,7 @@ use Rattle.session.specs.Range.{limits_hold}
 use Rattle.session.specs.Replies.{fits, is_close_reply, reply_frame}
 use Rattle.session.specs.Session.{is_server, is_terminated}
 use Rattle.steady.specs.Taking.{is_done}
-use Rattle.link.specs.System.{Item, End, Side, System, Keys, four, Lends, Act, sendText, sendBinary, sendPing, sendPong, send_close, takes, reads, cuts, text_to, binary_to, close_to, offered, ended, swap, Turn, onLeft, onRight, next}
+use Rattle.link.specs.System.{Item, End, Side, System, Keys, four, Lends, Act, send_text, send_binary, send_ping, send_pong, send_close, takes, reads, cuts, text_to, binary_to, close_to, offered, ended, swap, Turn, on_left, on_right, next}
 
 -- ---- the outset
 pub record Fit (g : Lends) : Type 0 where
@@ -17,9 +17,9 @@ pub record Fit (g : Lends) : Type 0 where
   -- "Both frame limits are at least 125"
   pub wide : 125 ≤ g.frame
   -- "each caller lends the same stores, large enough": its own least sizes
-  pub message_store_lem : g.message ≤ length g.message_store
-  pub control_store_lem : 125 ≤ length g.control_store
-  pub output_store_lem : 131 ≤ length g.output_store
+  pub message_room : g.message ≤ length g.message_store
+  pub control_room : 125 ≤ length g.control_store
+  pub output_room : 131 ≤ length g.output_store
 
 -- ---- each act of the left side. Some of the demand's words need no premise, since an act has nothing else to use: the stores are "the same"
 -- and "unaltered", the session is "the latest", a read is offered "the next bytes of its pipe, and the end flag only where the pipe ends behind
@@ -34,18 +34,18 @@ abbrev pub NoneWaits : End → Sending → Type 0
 NoneWaits e u = is_done u.handed.sent ≡ true → waits_call e.session ≡ false
 
 abbrev pub Allowed : System → Act → Type 0
-Allowed s (sendText p k) = FitsOther s.right.end (text_to s.left.end p k) p
-Allowed s (sendBinary p k) = FitsOther s.right.end (binary_to s.left.end p k) p
-Allowed s (sendPing p k) = Unit {0}
-Allowed s (sendPong p k) = Unit {0}
+Allowed s (send_text p k) = FitsOther s.right.end (text_to s.left.end p k) p
+Allowed s (send_binary p k) = FitsOther s.right.end (binary_to s.left.end p k) p
+Allowed s (send_ping p k) = Unit {0}
+Allowed s (send_pong p k) = Unit {0}
 Allowed s (send_close code reason k) = NoneWaits s.left.end (close_to s.left.end code reason k)
 Allowed s (takes n) = Unit {0}
 Allowed s (reads n flag k) = Unit {0}
 Allowed s (cuts n) = Unit {0}
 
 abbrev pub AllowedTurn : System → Turn → Type 0
-AllowedTurn s (onLeft a) = Allowed s a
-AllowedTurn s (onRight a) = Allowed (swap s) a
+AllowedTurn s (on_left a) = Allowed s a
+AllowedTurn s (on_right a) = Allowed (swap s) a
 
 unfoldable pub AllAllowed : System → List Turn → Type 0
 AllAllowed s [] = Unit {0}

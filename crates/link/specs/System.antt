@@ -144,7 +144,7 @@ read_from y n =
 
 -- ---- what the caller of a side, or chance, does with it
 pub data Act : Type 0 where
-  sendText sendBinary sendPing sendPong : List ℕ → Keys → Act
+  send_text send_binary send_ping send_pong : List ℕ → Keys → Act
   send_close : Closing → List ℕ → Keys → Act
   takes : ℕ → Act
   reads : ℕ → Bool → Keys → Act
@@ -168,10 +168,10 @@ close_to e code reason k = close_call e.session code reason (masks k) e.output
 
 -- the system after an act of the left side
 unfoldable pub done : System → Act → System
-done s (sendText p k) = record { left = sent s.left (text_to s.left.end p k) (item 2 p ∷ []) false; right = s.right }
-done s (sendBinary p k) = record { left = sent s.left (binary_to s.left.end p k) (item 3 p ∷ []) false; right = s.right }
-done s (sendPing p k) = record { left = sent s.left (ping_to s.left.end p k) (item 4 p ∷ []) false; right = s.right }
-done s (sendPong p k) = record { left = sent s.left (pong_to s.left.end p k) [] false; right = s.right }
+done s (send_text p k) = record { left = sent s.left (text_to s.left.end p k) (item 2 p ∷ []) false; right = s.right }
+done s (send_binary p k) = record { left = sent s.left (binary_to s.left.end p k) (item 3 p ∷ []) false; right = s.right }
+done s (send_ping p k) = record { left = sent s.left (ping_to s.left.end p k) (item 4 p ∷ []) false; right = s.right }
+done s (send_pong p k) = record { left = sent s.left (pong_to s.left.end p k) [] false; right = s.right }
 done s (send_close code reason k) = record { left = sent s.left (close_to s.left.end code reason k) [] true; right = s.right }
 done s (takes n) = record { left = taken s.left n; right = s.right }
 done s (reads n flag k) =
@@ -184,11 +184,11 @@ abbrev pub swap : System → System
 swap s = record { left = s.right; right = s.left }
 
 pub data Turn : Type 0 where
-  onLeft onRight : Act → Turn
+  on_left on_right : Act → Turn
 
 unfoldable pub next : System → Turn → System
-next s (onLeft a) = done s a
-next s (onRight a) = swap (done (swap s) a)
+next s (on_left a) = done s a
+next s (on_right a) = swap (done (swap s) a)
 
 unfoldable pub run : System → List Turn → System
 run s [] = s

@@ -10,7 +10,7 @@ use Rattle.base.specs.Tests.{both, first_of}
 use Rattle.coding.specs.CloseCodes.{allowed}
 use Rattle.coding.specs.Opcodes.{opcode_of}
 use Rattle.frame.specs.Close.{close_of, close_bytes, violation}
-use Rattle.frame.specs.Header.{first_of as firstByteOf, second_of, extra_bytes, length_of, size_by, missing, header_of, mask_in, length_code, length_bytes, first_byte, second_byte, header_bytes}
+use Rattle.frame.specs.Header.{first_of as first_byte_of, second_of, extra_bytes, length_of, size_by, missing, header_of, mask_in, length_code, length_bytes, first_byte, second_byte, header_bytes}
 use Rattle.mask.specs.Mask.{masked}
 use Rattle.lines.specs.Text.{digit_of, decimal_in, decimal, hex, shown_hex, counted, at_place}
 use Rattle.session.specs.Answers.{beyond, part_of}
@@ -45,5 +45,5 @@ lines =
     ∷ 99 ∷ 108 ∷ 111 ∷ 115 ∷ 101 ∷ 100 ∷ 10 ∷ []
 
 worked_listing : T (same (listing capture) lines)
-unfolding same capture lines made zero_masks tape_of put_text refused_text bad_text called after_call held_text after_take told_text behind call_lines calls_from fed bad_record records_from records listing_with listing onward mark_of short input_length input_in found_in digit_of decimal_in decimal hex shown_hex counted at_place beyond part_of no_incoming empty_reply fresh new_call output_short stores_short read_tests flagged take_bytes read_on read_call held_number held_part take_tests take_call part from_big to_big laid value_at first_of allowed opcode_of close_of close_bytes violation firstByteOf second_of extra_bytes length_of size_by missing header_of mask_in length_code length_bytes first_byte second_byte header_bytes masked header_whole frame is_text header_tests before progress_now doom_tests doom reason_holds text_holds utf_test verdict limits_hold settings_hold header_holds count_holds incoming_holds reply_holds numbers_hold range_of in_range keep plain stored refuse finish rest settle byte_in step feed frame_header encoded fits reply_of with_pong no_reply reply_frame appended move_reply shown_length shown_control close_came ping_came stepped progress_after is_whole is_beginning
+unfolding same capture lines made zero_masks tape_of put_text refused_text bad_text called after_call held_text after_take told_text behind call_lines calls_from fed bad_record records_from records listing_with listing onward mark_of short input_length input_in found_in digit_of decimal_in decimal hex shown_hex counted at_place beyond part_of no_incoming empty_reply fresh new_call output_short stores_short read_tests flagged take_bytes read_on read_call held_number held_part take_tests take_call part from_big to_big laid value_at first_of allowed opcode_of close_of close_bytes violation first_byte_of second_of extra_bytes length_of size_by missing header_of mask_in length_code length_bytes first_byte second_byte header_bytes masked header_whole frame is_text header_tests before progress_now doom_tests doom reason_holds text_holds utf_test verdict limits_hold settings_hold header_holds count_holds incoming_holds reply_holds numbers_hold range_of in_range keep plain stored refuse finish rest settle byte_in step feed frame_header encoded fits reply_of with_pong no_reply reply_frame appended move_reply shown_length shown_control close_came ping_came stepped progress_after is_whole is_beginning
 worked_listing = tt

@@ -11,7 +11,7 @@ use Rattle.base.specs.Tests.{both, first_of}
 use Rattle.coding.specs.CloseCodes.{allowed}
 use Rattle.coding.specs.Opcodes.{opcode_of}
 use Rattle.frame.specs.Close.{close_of, close_bytes, violation}
-use Rattle.frame.specs.Header.{first_of as firstByteOf, second_of, extra_bytes, length_of, size_by, missing, header_of, mask_in, length_code, length_bytes, first_byte, second_byte, header_bytes}
+use Rattle.frame.specs.Header.{first_of as first_byte_of, second_of, extra_bytes, length_of, size_by, missing, header_of, mask_in, length_code, length_bytes, first_byte, second_byte, header_bytes}
 use Rattle.mask.specs.Mask.{masked}
 use Rattle.session.specs.declared.Session.{Session}
 use Rattle.session.specs.Answers.{kind, value, shown}
@@ -104,5 +104,5 @@ table =
     ∷ []
 
 worked : T (all table)
-unfolding fresh no_incoming empty_reply small mask_of57 call once again same gives refuses all hello table part from_big to_big laid value_at first_of allowed opcode_of close_of close_bytes violation firstByteOf second_of extra_bytes length_of size_by missing header_of mask_in length_code length_bytes first_byte second_byte header_bytes masked output_short stores_short read_tests flagged take_bytes read_on read_call header_whole frame is_text header_tests before progress_now doom_tests doom reason_holds text_holds utf_test verdict limits_hold settings_hold header_holds count_holds incoming_holds reply_holds numbers_hold range_of in_range keep plain stored refuse finish rest settle byte_in step feed frame_header encoded fits reply_of with_pong no_reply reply_frame appended move_reply shown_length shown_control close_came ping_came stepped progress_after is_whole is_beginning
+unfolding fresh no_incoming empty_reply small mask_of57 call once again same gives refuses all hello table part from_big to_big laid value_at first_of allowed opcode_of close_of close_bytes violation first_byte_of second_of extra_bytes length_of size_by missing header_of mask_in length_code length_bytes first_byte second_byte header_bytes masked output_short stores_short read_tests flagged take_bytes read_on read_call header_whole frame is_text header_tests before progress_now doom_tests doom reason_holds text_holds utf_test verdict limits_hold settings_hold header_holds count_holds incoming_holds reply_holds numbers_hold range_of in_range keep plain stored refuse finish rest settle byte_in step feed frame_header encoded fits reply_of with_pong no_reply reply_frame appended move_reply shown_length shown_control close_came ping_came stepped progress_after is_whole is_beginning
 worked = tt

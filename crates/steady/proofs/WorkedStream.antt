@@ -11,7 +11,7 @@ use Rattle.base.specs.Tests.{both, first_of}
 use Rattle.coding.specs.CloseCodes.{allowed}
 use Rattle.coding.specs.Opcodes.{opcode_of}
 use Rattle.frame.specs.Close.{close_of, close_bytes, violation}
-use Rattle.frame.specs.Header.{first_of as firstByteOf, second_of, extra_bytes, length_of, size_by, missing, header_of, mask_in, length_code, length_bytes, first_byte, second_byte, header_bytes}
+use Rattle.frame.specs.Header.{first_of as first_byte_of, second_of, extra_bytes, length_of, size_by, missing, header_of, mask_in, length_code, length_bytes, first_byte, second_byte, header_bytes}
 use Rattle.mask.specs.Mask.{masked}
 use Rattle.session.specs.Answers.{kind, value}
 use Rattle.session.specs.Calls.{no_incoming, empty_reply, fresh, output_short, stores_short, read_tests, flagged, take_bytes, read_on, read_call}
@@ -59,5 +59,5 @@ cut : List (List ℕ)
 cut = [] ∷ (0x81 ∷ []) ∷ (0x02 ∷ 0x48 ∷ []) ∷ (0x69 ∷ 0x89 ∷ 0x00 ∷ 0x88 ∷ []) ∷ [] ∷ (0x00 ∷ []) ∷ [] ∷ []
 
 worked_stream : T (both (told (trace whole true) expected) (told (trace cut true) expected))
-unfolding start trace told expected whole cut noted landed behind call_at read_once read_all read_piece read_pieces fresh no_incoming empty_reply part from_big to_big laid value_at first_of allowed opcode_of close_of close_bytes violation firstByteOf second_of extra_bytes length_of size_by missing header_of mask_in length_code length_bytes first_byte second_byte header_bytes masked output_short stores_short read_tests flagged take_bytes read_on read_call header_whole frame is_text header_tests before progress_now doom_tests doom reason_holds text_holds utf_test verdict limits_hold settings_hold header_holds count_holds incoming_holds reply_holds numbers_hold range_of in_range keep plain stored refuse finish rest settle byte_in step feed frame_header encoded fits reply_of with_pong no_reply reply_frame appended move_reply shown_length shown_control close_came ping_came stepped progress_after is_whole is_beginning
+unfolding start trace told expected whole cut noted landed behind call_at read_once read_all read_piece read_pieces fresh no_incoming empty_reply part from_big to_big laid value_at first_of allowed opcode_of close_of close_bytes violation first_byte_of second_of extra_bytes length_of size_by missing header_of mask_in length_code length_bytes first_byte second_byte header_bytes masked output_short stores_short read_tests flagged take_bytes read_on read_call header_whole frame is_text header_tests before progress_now doom_tests doom reason_holds text_holds utf_test verdict limits_hold settings_hold header_holds count_holds incoming_holds reply_holds numbers_hold range_of in_range keep plain stored refuse finish rest settle byte_in step feed frame_header encoded fits reply_of with_pong no_reply reply_frame appended move_reply shown_length shown_control close_came ping_came stepped progress_after is_whole is_beginning
 worked_stream = tt

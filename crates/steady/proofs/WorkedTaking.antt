@@ -12,7 +12,7 @@ use Rattle.base.specs.Tests.{first_of}
 use Rattle.coding.specs.CloseCodes.{allowed}
 use Rattle.coding.specs.Opcodes.{opcode_of}
 use Rattle.frame.specs.Close.{close_of, close_bytes, violation}
-use Rattle.frame.specs.Header.{first_of as firstByteOf, second_of, extra_bytes, length_of, size_by, missing, header_of, mask_in, length_code, length_bytes, first_byte, second_byte, header_bytes}
+use Rattle.frame.specs.Header.{first_of as first_byte_of, second_of, extra_bytes, length_of, size_by, missing, header_of, mask_in, length_code, length_bytes, first_byte, second_byte, header_bytes}
 use Rattle.mask.specs.Mask.{masked}
 use Rattle.session.specs.declared.Answer.{Answer}
 use Rattle.session.specs.declared.Answer.TheVariants.{Ping, Close, Closed, Refused}
@@ -116,7 +116,7 @@ abbrev pub CloseTaken : Type 0
 CloseTaken = (server taker ((0x88 ∷ 0x80 ∷ 0 ∷ 0 ∷ 0 ∷ 0 ∷ []) ∷ [])).run.trace ≡ answered (Close 0) 6 ∷ answered Closed 6 ∷ []
 
 pub worked_taking : PingWhole × PingCut × PartWhole × PartCut × CloseKept × CloseTaken
-unfolding unmasked taker keeper start full pong client server ended flow_pieces flow_piece flow_all flow_once flow_call take_each taken_run taken_bytes new_call send_tests send_frame binary_call pong_call take_tests take_call noted landed behind call_at read_once fresh no_incoming empty_reply part from_big to_big laid value_at first_of allowed opcode_of close_of close_bytes violation firstByteOf second_of extra_bytes length_of size_by missing header_of mask_in length_code length_bytes first_byte second_byte header_bytes masked output_short stores_short read_tests flagged take_bytes read_on read_call header_whole frame is_text header_tests before progress_now doom_tests doom reason_holds text_holds utf_test verdict limits_hold settings_hold header_holds count_holds incoming_holds reply_holds numbers_hold range_of in_range keep plain stored refuse finish rest settle byte_in step feed frame_header encoded fits reply_of with_pong no_reply reply_frame appended move_reply shown_length shown_control close_came ping_came stepped progress_after is_whole is_beginning
+unfolding unmasked taker keeper start full pong client server ended flow_pieces flow_piece flow_all flow_once flow_call take_each taken_run taken_bytes new_call send_tests send_frame binary_call pong_call take_tests take_call noted landed behind call_at read_once fresh no_incoming empty_reply part from_big to_big laid value_at first_of allowed opcode_of close_of close_bytes violation first_byte_of second_of extra_bytes length_of size_by missing header_of mask_in length_code length_bytes first_byte second_byte header_bytes masked output_short stores_short read_tests flagged take_bytes read_on read_call header_whole frame is_text header_tests before progress_now doom_tests doom reason_holds text_holds utf_test verdict limits_hold settings_hold header_holds count_holds incoming_holds reply_holds numbers_hold range_of in_range keep plain stored refuse finish rest settle byte_in step feed frame_header encoded fits reply_of with_pong no_reply reply_frame appended move_reply shown_length shown_control close_came ping_came stepped progress_after is_whole is_beginning
 worked_taking = (refl, refl, refl, refl, refl, refl)
 
 -- so two cuttings tell: in the bytes put out, and in what waits

@@ -44,7 +44,7 @@ reply_short s r w = (good r).reply_short w
 
 -- ---- no number is owed
 pub record Clear (s : Session) (output : List ℕ) (bad : Bool) : Type 0 where
-  pub in_range_lem : in_range s ≡ true
+  pub ranged : in_range s ≡ true
   pub room : 131 ≤ length output
   pub held_within : s.held ≤ length output
   pub active : s.state ≡ 0
@@ -60,7 +60,7 @@ clear s output bad e =
     let bad = first_clear 18 _ _ (omega arith) active.1 in
     let sizes = long_parts (length output) s.held long.0 in
     record {
-      in_range_lem = not-false (in_range s) range.0;
+      ranged = not-false (in_range s) range.0;
       room = sizes.0;
       held_within = sizes.1;
       active = eqb-true s.state 0 (not-false (is_active s.state) active.0);

@@ -43,7 +43,7 @@ move_reply-moved-requires c =
     clear _ _ _ none_owed in
     let fitting : length c.args.payload.now ≤ 125 =
     ltb-false _ _ all_clear.not_bad in
-    let short = pong_short c.args.session.reply c.args.payload.now fitting (reply_short c.args.session all_clear.in_range_lem) in
+    let short = pong_short c.args.session.reply c.args.payload.now fitting (reply_short c.args.session all_clear.ranged) in
     record { reply_short = rw (← c.with_pong-asked.ensures) at short; held_within = all_clear.held_within }
 
 pub returns : goal.returns

@@ -124,7 +124,7 @@ move_reply-moved-requires c =
     let room : c.args.session.held + length bytes ≤ length c.args.output.now =
     fits-within _ _ _ fitting all_clear.held_within in
     let same : length c.put_frame-behind.new.output ≡ length c.args.output.now = ap length c.put_frame-behind.ensures.1 ∙ simp length-laid in
-    record { reply_short = reply_short c.args.session all_clear.in_range_lem; held_within = omega (arith, same, c.put_frame-behind.ensures.0, room) }
+    record { reply_short = reply_short c.args.session all_clear.ranged; held_within = omega (arith, same, c.put_frame-behind.ensures.0, room) }
 
 pub returns : goal.returns
 unfolding send_tests output_short in_range
