@@ -10,13 +10,13 @@ returns-then-state-gt-TERMINATED c = simp (lt-leb _ _ c.if-state-gt-TERMINATED.t
 
 pub returns-in_default : goal.returns-in_default
 unfolding numbers_hold
-returns-in_default c = simp (le-leb _ _ c.if-state-gt-TERMINATED.false, ne_eqb c.args.refusal 0 (assumption), lt-leb 3 c.args.refusal (omega arith))
+returns-in_default c = simp (le-leb c.args.state 4 (omega arith), ne_eqb c.args.refusal 0 (assumption), lt-leb 3 c.args.refusal (omega arith))
 
 pub returns-in_default-2 : goal.returns-in_default-2
 unfolding numbers_hold
 returns-in_default-2 c =
     simp (
-      le-leb _ _ c.if-state-gt-TERMINATED.false,
+      le-leb c.args.state 4 (omega arith),
       ne_eqb c.args.refusal 0 (assumption),
       le-leb 3 c.args.refusal (omega arith),
       lt-leb c.args.refusal 15 (omega arith),
@@ -24,13 +24,13 @@ returns-in_default-2 c =
 
 pub returns-in-0 : goal.returns-in-0
 unfolding numbers_hold
-returns-in-0 c = simp (le-leb _ _ c.if-state-gt-TERMINATED.false, eq-eqb c.args.refusal 0 (omega arith))
+returns-in-0 c = simp (le-leb c.args.state 4 (omega arith), eq-eqb c.args.refusal 0 (omega arith))
 
 pub returns-in-0-2 : goal.returns-in-0-2
 unfolding numbers_hold
 returns-in-0-2 c =
     simp (
-      le-leb _ _ c.if-state-gt-TERMINATED.false,
+      le-leb c.args.state 4 (omega arith),
       ne_eqb c.args.refusal 0 (assumption),
       le-leb 3 c.args.refusal (omega arith),
       le-leb c.args.refusal 15 (omega arith),
