@@ -21,8 +21,10 @@ TOKEN = re.compile(r"[^\s(){}\[\];,.:`\"'|]+")
 QUOTED = re.compile(r"(\"(?:[^\"\\\n]|\\.)*\")")
 LIBRARY = {"length", "take", "drop", "get_or", "set", "append", "map", "replicate"}
 
-# names that the rule would give badly: constructors and aliases that no line of their own declares, and fields that would have a lemma's name
+# names that the rule would give badly: fields beside a field with an underscore or that would have a lemma's name, and constructors and
+# aliases that no line of their own declares
 NAMED = {
+    "frame-limit": "frame_limit",
     "byUs": "closed_by_us",
     "byPeer": "closed_by_peer",
     "betweenFrames": "between_frames",

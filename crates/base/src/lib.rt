@@ -1,3 +1,2 @@
-#![tactic(auto)]
-
 // No function: what the other crates say and prove in common. The definitions are in specs/, their laws in proofs/.
+#![tactic(auto)]

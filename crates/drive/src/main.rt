@@ -50,9 +50,12 @@ fn more(
     next.window = refilled;
     next.at = 0;
     if refilled.failed {
-        rt.eprintln("drive: the script can't be read")?;
         next.word = ask::BAD;
         next.line = state.line.wrapping_add(1);
+        // where that can't be said either, the answer still is that the line is bad
+        match rt.eprintln("drive: the script can't be read") {
+            Ok(()) | Err(_) => {}
+        }
     }
     Ok(next)
 }

@@ -1,5 +1,5 @@
-// A window on standard input: the bytes that were read and are not used yet, those of a lent array from one place to another. No place is
-// ever behind the array's end; the tests on places stand in for a proof of that.
+// A window on what a program reads: the bytes that were read and are not used yet, those of a lent array from one place to another. No place
+// is ever behind the array's end; the tests on places stand in for a proof of that.
 #![tactic(auto)]
 
 ghost use Rattle.std.specs.Prelude.{◌≡◌, take};

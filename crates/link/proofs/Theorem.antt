@@ -98,9 +98,9 @@ fresh_kept role g fit =
       wide = fit.wide;
     }
 
-frame-limit : (g : Lends) → Fit g → g.frame ≤ 16777216
+frame_limit : (g : Lends) → Fit g → g.frame ≤ 16777216
 unfolding limits_hold
-frame-limit g fit = leb-true g.frame 16777216 (both-parts _ _ fit.limits).0
+frame_limit g fit = leb-true g.frame 16777216 (both-parts _ _ fit.limits).0
 
 fresh-dir : (x y : Role) (g h : Lends) → Fit h → Toward (is_client (settings x g)) (settings y h) → Dir (fresh_made x g) (fresh_made y h) active active
 unfolding fresh wires told empty_reply no_incoming
@@ -147,8 +147,8 @@ first_inv c d fit-c fit-d =
       is_q = refl;
       kept-l = fresh_kept Client c fit-c;
       kept-r = fresh_kept Server d fit-d;
-      lr = fresh-dir Client Server c d fit-d (record { to_server = refl; to_client = refl; limit = frame-limit d fit-d });
-      rl = fresh-dir Server Client d c fit-c (record { to_server = refl; to_client = refl; limit = frame-limit c fit-c });
+      lr = fresh-dir Client Server c d fit-d (record { to_server = refl; to_client = refl; limit = frame_limit d fit-d });
+      rl = fresh-dir Server Client d c fit-c (record { to_server = refl; to_client = refl; limit = frame_limit c fit-c });
       fin_l = record { ends = λ a b e. never e refl };
       fin_r = record { ends = λ a b e. never e refl };
     }

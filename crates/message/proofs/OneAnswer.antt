@@ -2,12 +2,12 @@
 use mathlib.Core.Path.{sym, ap, ◌∙◌}
 use Rattle.base.proofs.Promise.{OneAnswer, OneStore}
 use Rattle.session.specs.Reading.{At}
-use Rattle.message.proofs.pump.is_more.Kinds as is_more_lem
+use Rattle.message.proofs.pump.is_more.Kinds as is-more
 use Rattle.message.proofs.pump.is_more.Reads as is-more-reads
 use Rattle.message.proofs.pump.take_bytes.Kinds as take-bytes
 use Rattle.message.proofs.pump.take_bytes.Reads as take-bytes-reads
 
-pub is_more_one : OneAnswer 0 is_more_lem.ps is_more_lem.r is-more-reads.Post
+pub is_more_one : OneAnswer 0 is-more.ps is-more.r is-more-reads.Post
 is_more_one κs a z z' e e' p q = p ∙ sym q
 
 pub take-bytes_one : OneAnswer 3 take-bytes.ps take-bytes.r take-bytes-reads.Post

@@ -14,7 +14,7 @@ use Rattle.script.proofs.values.hex.Reads as values-hex-reads
 use Rattle.script.proofs.words.behind.Kinds as behind
 use Rattle.script.proofs.words.behind.Reads as behind-reads
 use Rattle.script.proofs.words.byte.Kinds as byte
-use Rattle.script.proofs.words.byte.Reads as byte-Reads
+use Rattle.script.proofs.words.byte.Reads as byte-reads
 use Rattle.script.proofs.words.count.Kinds as count
 use Rattle.script.proofs.words.count.Reads as count-reads
 use Rattle.script.proofs.words.find.Kinds as find
@@ -27,7 +27,7 @@ use Rattle.script.proofs.words.word.Reads as word-reads
 pub words_find_one : OneAnswer 1 find.ps find.r find-reads.Post
 words_find_one κs a z z' e e' p q = p ∙ sym q
 
-pub words_byte_one : OneAnswer 1 byte.ps byte.r byte-Reads.Post
+pub words_byte_one : OneAnswer 1 byte.ps byte.r byte-reads.Post
 words_byte_one κs a z z' e e' p q = p ∙ sym q
 
 pub words_behind_one : OnePart 1 behind.ps behind.r (λ κs z. (z.now, z.ref_ptr)) behind-reads.Post

@@ -4,7 +4,7 @@ ghost use Rattle.base.specs.Stores.{laid};
 ghost use Rattle.script.specs.Values.{more_of, decimal_of, bits_of, byte_of, all_digits, bytes_of, hex_of, hex_laid};
 
 // A value, or that it can't be understood.
-#[derive(Drop)]
+#[derive(Clone, Copy)]
 pub enum Value {
     Is(u64),
     Bad,

@@ -23,7 +23,7 @@ use Rattle.session.proofs.Choices.{both-parts, either-parts, either-all, asked, 
 use Rattle.session.proofs.Holds.{few, few_test, few_within, few_most}
 
 pub record Good (g : Settings) (state refusal : ℕ) (i : Incoming) (k : Waiting) (n : ℕ) : Type 0 where
-  pub frame-limit : g.frame ≤ 16777216
+  pub frame_limit : g.frame ≤ 16777216
   pub message_limit : g.message ≤ 67108864
   pub role_known : g.role ≤ 1
   pub state_known : state ≤ 4
@@ -61,7 +61,7 @@ good {g} {state} {refusal} {i} {k} {n} e =
     let counts = both-parts (count_holds i) _ incoming.1 in
     let last = both-parts (leb i.progress 8) _ counts.1 in
     record {
-      frame-limit = leb-true _ _ limits.0;
+      frame_limit = leb-true _ _ limits.0;
       message_limit = leb-true _ _ limits.1;
       role_known = leb-true _ _ settings.1;
       state_known = leb-true _ _ numbers.0;
@@ -92,7 +92,7 @@ good_range {g} {state} {refusal} {i} {k} {n} x =
     chosen (header_whole i) _ _ (λ w. le-leb _ _ (x.counted-whole w)) (λ w. eq-eqb _ 0 (x.counted-lacking w)) in
     let reply : reply_holds k n ≡ true = asked (waits k) _ (λ w. le-leb n 125 (x.reply_short w)) in
     rw (
-      le-leb g.frame 16777216 x.frame-limit,
+      le-leb g.frame 16777216 x.frame_limit,
       le-leb g.message 67108864 x.message_limit,
       le-leb g.role 1 x.role_known,
       le-leb state 4 x.state_known,

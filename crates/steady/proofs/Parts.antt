@@ -48,7 +48,7 @@ other_good : (s : Session) (state : ℕ) (q : Reply) → in_range s ≡ true →
 other_good s state q e h k =
     let x : GoodSession s = in_range_lem s e in
     record {
-      frame-limit = x.frame-limit;
+      frame_limit = x.frame_limit;
       message_limit = x.message_limit;
       role_known = x.role_known;
       state_known = h;
@@ -86,7 +86,7 @@ range_incoming s i a e y =
     let x : GoodSession s = in_range_lem s e in
     let good : GoodSession (with_refusal (with_incoming s i) (refusal_of a)) =
     record {
-      frame-limit = x.frame-limit;
+      frame_limit = x.frame_limit;
       message_limit = x.message_limit;
       role_known = x.role_known;
       state_known = x.state_known;

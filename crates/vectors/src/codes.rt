@@ -4,7 +4,7 @@ use crate::told::Text;
 use coding::close_code::CloseCode;
 
 // The place of a class's word, and the code that the class carries.
-#[derive(Drop)]
+#[derive(Clone, Copy)]
 struct Class {
     word: u64,
     code: u16,
@@ -77,7 +77,7 @@ fn class_of(code: u16) -> Class {
 
 // What the codes of a run have in common. Its word is `wrong` where a class does not carry the code that it was made of, or where the two
 // that judge a code do not agree.
-#[derive(Drop)]
+#[derive(Clone, Copy)]
 struct Sort {
     word: u64,
     allowed: u64,

@@ -115,7 +115,7 @@ const NO_RECORD: usize = 2;
 
 const OVER: usize = 3;
 
-#[derive(Drop)]
+#[derive(Clone, Copy)]
 struct State {
     window: Window,
     // the bytes of the window that are used at the next turn
@@ -188,10 +188,17 @@ fn look(state: State, bytes: &[u8]) -> State {
     next
 }
 
-fn more(rt: &impl Input, state: State, bytes: &mut Bytes) -> io::Result<State> {
+// More bytes are wanted. Where a read fails, what is answered so far is written, and the failure ends the run.
+fn more(
+    rt: &(impl Input + Print),
+    state: State,
+    bytes: &mut Bytes,
+    out: &Text,
+) -> io::Result<State> {
     let window = state.window;
     let refilled = input::refill(&mut rt.reader(), bytes, window);
     if refilled.failed {
+        rt.write_all(input::front(out, state.at))?;
         return Err(io::Error::other("the records can't be read"));
     }
     let mut next = state;
@@ -201,7 +208,7 @@ fn more(rt: &impl Input, state: State, bytes: &mut Bytes) -> io::Result<State> {
 }
 
 fn turn(
-    rt: &impl Input,
+    rt: &(impl Input + Print),
     state: State,
     bytes: &mut Bytes,
     args: &mut Args,
@@ -215,7 +222,7 @@ fn turn(
             let line = input::front(input::shown(bytes, window), looked.length);
             Ok(record(looked, line, args, out))
         }
-        WANTING => more(rt, looked, bytes),
+        WANTING => more(rt, looked, bytes, out),
         NO_RECORD => Ok(bad(looked, out)),
         _ => Ok(looked),
     }

@@ -37,7 +37,7 @@ pub(crate) type Text = [u8; 65536];
 // What a record lays its bytes over.
 pub(crate) type Store = [u8; 64];
 
-#[derive(Drop)]
+#[derive(Clone, Copy)]
 pub(crate) struct Answer {
     pub(crate) shape: usize,
     pub(crate) numbers: [u64; 8],
