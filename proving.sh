@@ -1,42 +1,41 @@
-# To be read by harrowlink and speed/build with '.': who waits for a proof sees what is being proved. `root` is the repository.
+# To be read by harrowlink and speed/build with '.': what is to be proved anew, and who waits for a proof sees what is being proved. `root` is
+# the repository.
 
-# The crates that one stands on, and it itself, as crates.txt lists them.
+# A file or folder of the crates that is newer than this one, where there is any. What `rt` makes, in out/, is none, nor that it is there.
+changed_since() {
+    { find "$root/crates" -mindepth 2 -name out -prune -o -newer "$1" -print && find "$root/crates.txt" -newer "$1"; } 2>/dev/null | head -n 1
+}
+
+# The crates that one stands on, and it itself, in the order in which `rt` proves them.
 crates_below() {
     awk -v wanted="$1" '
+        function tell(name, ones, count, k) {
+            count = split(below[name], ones, " ")
+            for (k = 1; k <= count; k++) if (ones[k] in below) tell(ones[k])
+            if (!told[name]++) print name
+        }
         { sub(/#.*/, "") }
         /:/ {
             name = $1
             sub(/:.*/, "", name)
-            names[++count] = name
             below[name] = substr($0, index($0, ":") + 1)
         }
-        END {
-            needed[wanted] = 1
-            do {
-                grown = 0
-                for (name in below) {
-                    n = name in needed ? split(below[name], next_ones, " ") : 0
-                    for (k = 1; k <= n; k++) {
-                        if (!(next_ones[k] in needed)) grown = needed[next_ones[k]] = 1
-                    }
-                }
-            } while (grown)
-            for (k = 1; k <= count; k++) if (names[k] in needed) print names[k]
-        }' "$root/crates.txt"
+        END { if (wanted in below) tell(wanted) }' "$root/crates.txt"
 }
 
-# How it stands with these crates, in one line, or nothing while none is being proved. `rt` leaves a word on each in target/log/NAME.res:
-# failed until it is proved, then proved, or built for a program. On the last of a static library it leaves none.
+# How it stands with these crates, in one line, or nothing before the first is begun. `rt` proves one after the other and says with which it
+# begins, but says nothing of those that are proved already.
 how_it_stands() {
-    proving= proved=0
+    proving=$(sed -n 's/^rt: chose --jobs [0-9]* for \([a-z0-9_]*\)$/\1/p' "$1" | tail -n 1)
+    shift
+    proved=0
     for crate in "$@"; do
-        case $(cat "$root/target/log/$crate.res" 2>/dev/null) in
-        proved | built) proved=$((proved + 1)) ;;
-        failed) proving="$proving${proving:+ and }$crate" ;;
-        esac
+        if [ "$crate" = "$proving" ]; then
+            printf 'proving %s: %s of %s crates are proved' "$proving" "$proved" "$#"
+            return
+        fi
+        proved=$((proved + 1))
     done
-    [ "$proved" != $(($# - 1)) ] || proving=${proving:-$crate}
-    [ -z "$proving" ] || printf 'proving %s: %s of %s crates are proved' "$proving" "$proved" "$#"
 }
 
 # Says it on standard error whenever it has changed, as long as this shell is there: in one line that is written over on a terminal, in
@@ -53,20 +52,19 @@ tell_proofs() {
     done
 }
 
-# telling CRATE LOG COMMAND..: runs a command of `rt` that proves this crate and what it stands on, what it writes behind the log, and tells
-# meanwhile how it stands. Ends as the command does.
+# telling CRATE LOG COMMAND..: runs a command of `rt` in this crate's folder, which proves it and what it stands on, what it writes into the
+# log, and tells meanwhile how it stands. Ends as the command does.
 telling() {
+    folder=$root/crates/$1
     below=$(crates_below "$1")
     log=$2
     shift 2
-    for crate in $below; do
-        rm -f "$root/target/log/$crate.res"
-    done
+    : >"$log" || return 2
     # the crates' names are words
     # shellcheck disable=SC2086
-    tell_proofs $below &
+    tell_proofs "$log" $below &
     teller=$!
-    (cd "$root" && "$@") >>"$log" 2>&1
+    (cd "$folder" && "$@") >>"$log" 2>&1 </dev/null
     ended=$?
     kill "$teller" 2>/dev/null
     wait "$teller" 2>/dev/null
