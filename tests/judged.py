@@ -1,5 +1,5 @@
 """tests/promises.py tried on a small repository with wrong answers that count and edits that must not count (see tests/parts/judge). It is
-made here, in a temporary folder, and `rt` tries its edits, so that the logs are real ones. Every file of edits has an answer that is wrong
+made here, in a temporary folder, and `rt` tries its edits, so that what it says is real. Every file of edits has an answer that is wrong
 for a fact, so `rt` refuses all of them."""
 import subprocess
 import sys
@@ -9,13 +9,14 @@ from pathlib import Path
 PROMISES = Path(__file__).resolve().parent / "promises.py"
 
 CODE = """\
-ghost use mathlib.Core.Path.{_≡_};
-ghost use mathlib.Core.Bool.{not};
-ghost use lib.Dec.{leb};
+// Lengths of payloads.
+#![tactic(auto)]
+
+ghost use Rattle.std.specs.Prelude.{◌≡◌, nat_le, not};
 
 // Whether a number is at most another.
 pub fn is_within(n: u64, most: u64) -> bool
-    ensures { λ r. ⌜ r ≡ leb n most ⌝ }
+    ensures { result ≡ nat_le n most }
 {
     if n <= most {
         return true;
@@ -25,58 +26,72 @@ pub fn is_within(n: u64, most: u64) -> bool
 
 // The opposite.
 pub fn is_above(n: u64, most: u64) -> bool
-    ensures { λ r. ⌜ r ≡ not (leb n most) ⌝ }
+    ensures { result ≡ not (nat_le n most) }
 {
     !is_within(n, most)
 }
 
 // Whether a control payload may have this length.
 pub fn is_short(n: u64) -> bool
-    ensures { λ r. ⌜ r ≡ leb n 125 ⌝ }
+    ensures { result ≡ nat_le n 125 }
 {
     is_within(n, 125)
 }
 
 // The longest one.
 pub fn longest() -> u64
-    ensures { λ r. ⌜ r ≡ 125 ⌝ }
+    ensures { result ≡ 125 }
 {
     // as the RFC has it
     125
 }
+
+// In how many bytes a length below 65,536 is written.
+pub fn size(n: u64) -> u64
+    ensures { nat_le n 125 ≡ nat_le result 1 }
+{
+    if n < 126 {
+        return 1;
+    }
+    3
+}
 """
 
-# of the other two functions rt makes the proofs
+# of the others rt makes the proofs
 PROOFS = {
     "is_within": """\
+use mathlib.Core.Path.{sym}
 use borrow.Author.Tests.{le-leb, lt-leb}
-use Rattle·tried·proofs.proofs.is_within.Statement.{statement}
-use Rattle·tried·proofs.proofs.is_within.Tie as tie
+use Rattle.tried.proofs.is_within.Goals as goal
 
-returns : tie.Need-returns
-returns c = simp (le-leb _ _ (c .if1 .taken))
+pub returns-then-n-most : goal.returns-then-n-most
+returns-then-n-most c = sym (le-leb _ _ c.if-n-most.true)
 
-returns-2 : tie.Need-returns-2
-returns-2 c = simp (lt-leb _ _ (c .if1 .left))
-
-pub is-within-spec : {M : Type 1} → statement M
-is-within-spec = tie.close (tie.spec returns returns-2)
+pub returns : goal.returns
+returns c = sym (lt-leb _ _ c.if-n-most.false)
 """,
     "is_above": """\
 use mathlib.Core.Path.{ap}
 use mathlib.Core.Bool.{not}
-use borrow.Author.Needs.{needs}
-use Rattle·tried·proofs.proofs.is_above.Statement.{statement}
-use Rattle·tried·proofs.proofs.is_above.Tie as tie
+use borrow.Author.Rules.{rules}
+use Rattle.tried.proofs.is_above.Goals as goal
 
-is-within-requires : tie.Need-is-within-requires
-is-within-requires c κs = search needs
+pub is_within-requires : goal.is_within-requires
+is_within-requires c = search rules
 
-returns : tie.Need-returns
-returns c = ap not (c .is-within .ensures)
+pub returns : goal.returns
+returns c = ap not c.is_within.ensures
+""",
+    "size": """\
+use borrow.Author.Tests.{le-leb, lt-leb}
+use native.Mathlib.Omega.{arith}
+use Rattle.tried.proofs.size.Goals as goal
 
-pub is-above-spec : {M : Type 1} → statement M
-is-above-spec = tie.close (tie.spec is-within-requires returns)
+pub returns-then-n-lt126 : goal.returns-then-n-lt126
+returns-then-n-lt126 c = le-leb _ _ (omega arith)
+
+pub returns : goal.returns
+returns c = lt-leb _ _ (omega arith)
 """,
 }
 
@@ -87,19 +102,21 @@ EDITS = {
         ("is_above", "the_other_way_round", "!is_within(n, most)", "!is_within(most, n)"),
         ("is_short", "one_byte_more", "is_within(n, 125)", "is_within(n, 126)"),
         ("longest", "longest_of_126", "    125", "    126"),
+        ("size", "names_follow_their_test", "    if n < 126 {", "    if n < 125 {"),
     ],
     "not_wrong": [
         ("is_within", "never_within", "        return true;", "        return false;"),
         ("is_above", "not_wrong_while_its_callee_is", "!is_within(n, most)", "!(is_within(n, most))"),
         ("is_short", "no_longer_wrong", "is_within(n, 125)", "is_within(n, 0x7d)"),
         ("longest", "comment_changed", "as the RFC has it", "as the RFC has it in 5.5"),
+        ("size", "test_written_otherwise", "    if n < 126 {", "    if n <= 125 {"),
     ],
     "fit_lost": [
         ("is_above", "proof_speaks_of_a_call_that_is_gone", "!is_within(n, most)", "most < n"),
         ("is_short", "one_byte_less", "is_within(n, 125)", "is_within(n, 124)"),
     ],
     "field_lost": [
-        ("is_above", "proof_speaks_of_a_place_that_is_gone", "!is_within(n, most)", "if is_within(n, most) { return false; } true"),
+        ("is_within", "proof_speaks_of_a_place_that_is_gone", "    if n <= most {", "    if n < most || n == most {"),
         ("longest", "longest_of_124", "    125", "    124"),
     ],
     "one_function": [
@@ -115,6 +132,7 @@ EXPECTED = {
     "tried/not_wrong: not_wrong_while_its_callee_is: no fact of its function failed",
     "tried/not_wrong: no_longer_wrong: no fact of its function failed",
     "tried/not_wrong: comment_changed: no fact of its function failed",
+    "tried/not_wrong: test_written_otherwise: no fact of its function failed",
     "tried/fit_lost: proof_speaks_of_a_call_that_is_gone: the proof did not fit, so no fact was tried",
     "tried/field_lost: proof_speaks_of_a_place_that_is_gone: the proof did not fit, so no fact was tried",
     "tried/one_function: second_in_its_function: another wrong answer of the file is in the same function",
@@ -129,7 +147,7 @@ def lay_out(root):
     rows = {}
     files = {root / "crates.txt": "tried:\n", crate / "src/lib.rt": CODE}
     for function, proof in PROOFS.items():
-        files[crate / "proofs" / function / "Proof.antt"] = proof
+        files[crate / "proofs" / function / "Answers.antt"] = proof
     for name, edits in EDITS.items():
         texts = [f"wrong: {label}\nfile: src/lib.rt\nold: {old}\nnew: {new}\n" for _, label, old, new in edits]
         files[crate / "must-fail" / f"{name}.edit"] = "\n".join(texts)

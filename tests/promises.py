@@ -1,4 +1,4 @@
-"""docs/PROMISES.md beside the crates and the logs of their wrong answers (see tests/parts/promises).
+"""docs/PROMISES.md beside the crates and their wrong answers (see tests/parts/promises).
 
     tests/promises.py [ROOT]      of another repository than this one
 
@@ -11,15 +11,19 @@ backticks in the fourth. A file crates/CRATE/must-fail/NAME.edit holds several w
     new: what it becomes
 
 `rt` refuses the file where any of them fails, so each one is judged here: it changes one function, in which nothing else of the file
-changes anything, and in the log of the refusal a fact of that very function failed. A function's contract is all that others see of it, so
-a fact that fails in it fails for its own change."""
+changes anything, and when the file is tried (tests/tried.py) a fact of that very function fails. A function's contract is all that others
+see of it, so a fact that fails in it fails for its own change. What shows nothing beside the others, since it took names away that the
+proof cites or since what it calls has failed, is tried once more alone."""
 import re
 import sys
+import tempfile
 from pathlib import Path
 
+import tried
+
 # No fact of a function was tried: what it rests on was refused, or its proof speaks of what is no longer there.
-FELL_WITH_ANOTHER = "was not admitted"
-LOST_ITS_FIT = ["can be named from here", "has no field"]
+FELL_WITH_ANOTHER = " not checked: "
+LOST_ITS_FIT = ["can be named from here", "has no field", "is not in scope"]
 
 
 class Tally:
@@ -71,10 +75,16 @@ def function_at(file, line):
 
 
 def proved_in(path):
-    """The functions that a file of proofs/ proves, by its path from there: a/f/Proof.antt, or a/+f+g/Proof.antt for those that call one
+    """The functions that a file of proofs/ proves, by its path from there: a/f/Answers.antt, or a/+f+g/Answers.antt for those that call one
     another."""
     *modules, function = path.parent.parts
     return ["::".join([*modules, name]) for name in function.split("+") if name]
+
+
+def proofs_of(crate, function):
+    """The files of proofs/ that prove a function, by their paths from the crate."""
+    files = (path.relative_to(crate) for path in (crate / "proofs").rglob("*.antt") if path.parent != crate / "proofs")
+    return [path for path in files if function in proved_in(path.relative_to("proofs"))]
 
 
 # ---- the wrong answers
@@ -112,40 +122,67 @@ def place_functions(crate, wrongs):
             wrong.functions.add(function_at(crate / file, before.count("\n")))
 
 
-def failed_facts(tried):
-    """The facts that failed, function by function: what the log says of a function's own proof file, or of its code where `rt` makes the
-    proof. `tried` is the folder of the edited copy, with the log."""
-    log = tried / ".log"
+def failed_facts(said, crate):
+    """The facts that failed, function by function: what the check says of a function's own proof files, or of its code where it makes the
+    proof itself. `crate` is the changed copy."""
     facts = {}
-    if not log.exists():
-        return facts
-    for line in log.read_text(encoding="utf-8", errors="replace").splitlines():
-        error = re.match(r"\S*?/proofs/(\S+/Proof\.antt):\d+:\d+: error: (.*)", line)
-        note = re.match(r"note: \S*?/(src/\S+\.rt):(\d+):\d+: (it is not proved that .*)", line)
+    for line in said.splitlines():
+        error = re.match(r"\S*?\bproofs/(\S+/\w+\.antt):\d+:\d+: error: (.*)", line)
+        note = re.match(r"note: \S*?\b(src/\S+\.rt):(\d+):\d+: (it is not proved that .*)", line)
         if error:
             for function in proved_in(Path(error[1])):
                 facts.setdefault(function, []).append(error[2])
         elif note:
-            facts.setdefault(function_at(tried / note[1], int(note[2]) - 1), []).append(note[3])
+            facts.setdefault(function_at(crate / note[1], int(note[2]) - 1), []).append(note[3])
     return facts
 
 
-def judge(tally, crate, edit, tried):
-    """One file of wrong answers, and the log of its refusal. Gives their names."""
-    wrongs = wrong_answers(edit)
-    place_functions(crate, wrongs)
-    facts = failed_facts(tried)
+def lost_its_fit(facts):
+    return any(sign in fact for fact in facts for sign in LOST_ITS_FIT)
+
+
+def shows(facts):
+    """Whether a fact failed, and each was tried."""
+    return not lost_its_fit(facts) and any(FELL_WITH_ANOTHER not in fact for fact in facts)
+
+
+class File:
+    """A file of wrong answers, and the facts that failed when it was tried, function by function."""
+
+    def __init__(self, trials, crate, edit):
+        self.crate, self.edit, self.wrongs = crate, edit, wrong_answers(edit)
+        place_functions(crate, self.wrongs)
+        everything = [replacement for wrong in self.wrongs for replacement in wrong.replacements]
+        self.facts = self.told(trials, *trials.together(crate.name, edit.stem, everything))
+        for number, wrong in enumerate(self.wrongs, 1):
+            functions = wrong.functions - {None}
+            if len(functions) == 1 and not any(shows(self.facts.get(function, [])) for function in functions):
+                self.try_alone(trials, number, wrong, *functions)
+
+    def try_alone(self, trials, number, wrong, function):
+        proofs = proofs_of(self.crate, function)
+        told = self.told(trials, *trials.alone(self.crate.name, f"{self.edit.stem}-{number}", wrong.replacements, function, proofs))
+        self.facts[function] = told.get(function, [])
+
+    def told(self, trials, said, folder):
+        facts = failed_facts(said, folder)
+        trials.drop(folder)
+        return facts
+
+
+def judge(tally, file):
+    """One file of wrong answers. Gives their names."""
     seen = set()
-    for wrong in wrongs:
-        said = f"{crate.name}/{edit.stem}: {wrong.name or 'a wrong answer without a name'}"
+    for wrong in file.wrongs:
+        said = f"{file.crate.name}/{file.edit.stem}: {wrong.name or 'a wrong answer without a name'}"
         tally.check(bool(wrong.name and wrong.replacements), f"{said}: it needs a name and a replacement")
         tally.check(len(wrong.functions) == 1 and None not in wrong.functions, f"{said}: it does not change one function")
         tally.check(not wrong.functions & seen, f"{said}: another wrong answer of the file is in the same function")
         seen |= wrong.functions
-        found = [fact for function in wrong.functions for fact in facts.get(function, [])]
-        tally.check(not any(sign in fact for fact in found for sign in LOST_ITS_FIT), f"{said}: the proof did not fit, so no fact was tried")
+        found = [fact for function in wrong.functions for fact in file.facts.get(function, [])]
+        tally.check(not lost_its_fit(found), f"{said}: the proof did not fit, so no fact was tried")
         tally.check(any(FELL_WITH_ANOTHER not in fact for fact in found), f"{said}: no fact of its function failed")
-    return [wrong.name for wrong in wrongs]
+    return [wrong.name for wrong in file.wrongs]
 
 
 # ---- the page
@@ -172,16 +209,25 @@ def check_rows(tally, rows, libraries):
         tally.check(name in public, f"docs/PROMISES.md has a row for {name}, which is no public function")
 
 
-def check_crate(tally, root, crate, rows):
+def tried_files(tally, root, libraries):
+    """Every file of wrong answers, tried, by its crate. A crate that is not proved as it stands shows nothing."""
+    edits = [(crate, edit) for crate in libraries for edit in sorted((crate / "must-fail").glob("*.edit"))]
+    with tempfile.TemporaryDirectory(prefix="wrong-answers-") as room:
+        trials = tried.Trials(root, Path(room))
+        proved = trials.proved({crate.name for crate, _ in edits})
+        for crate in sorted({crate.name for crate, _ in edits}):
+            tally.check(crate in proved, f"{crate} is not proved as it stands, so its wrong answers were not tried")
+        return tried.side_by_side(lambda pair: File(trials, *pair), [pair for pair in edits if pair[0].name in proved])
+
+
+def check_crate(tally, crate, rows, files):
     """Every wrong answer of a crate is judged and in a row, and nothing else is in a row."""
-    tried = []
-    for edit in sorted((crate / "must-fail").glob("*.edit")):
-        tried += judge(tally, crate, edit, root / "target/must-fail" / crate.name / edit.stem)
+    names = [name for file in files if file.crate == crate for name in judge(tally, file)]
     named = {label for name, labels in rows.items() if name.split("::")[0] == crate.name for label in labels}
-    for label in sorted({label for label in tried if tried.count(label) > 1}):
+    for label in sorted({label for label in names if names.count(label) > 1}):
         tally.check(False, f"{crate.name}: two wrong answers are called {label}")
-    for label in sorted(set(tried) ^ named):
-        where = "is in no row of docs/PROMISES.md" if label in tried else "stands in docs/PROMISES.md and is not tried"
+    for label in sorted(set(names) ^ named):
+        where = "is in no row of docs/PROMISES.md" if label in names else "stands in docs/PROMISES.md and is not tried"
         tally.check(False, f"{crate.name}: {label} {where}")
 
 
@@ -200,8 +246,9 @@ def main(words):
     libraries = [c for c in sorted((root / "crates").iterdir()) if (c / "src/lib.rt").exists()]
     rows = rows_of(tally, promises)
     check_rows(tally, rows, libraries)
+    files = tried_files(tally, root, libraries)
     for crate in libraries:
-        check_crate(tally, root, crate, rows)
+        check_crate(tally, crate, rows, files)
     check_laws(tally, root, promises)
     return tally.told()
 
