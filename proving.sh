@@ -55,16 +55,16 @@ tell_proofs() {
 # telling CRATE LOG COMMAND..: runs a command of `rt` in this crate's folder, which proves it and what it stands on, what it writes into the
 # log, and tells meanwhile how it stands. Ends as the command does.
 telling() {
-    folder=$root/crates/$1
+    crate_folder=$root/crates/$1
     below=$(crates_below "$1")
-    log=$2
+    rt_log=$2
     shift 2
-    : >"$log" || return 2
+    : >"$rt_log" || return 2
     # the crates' names are words
     # shellcheck disable=SC2086
-    tell_proofs "$log" $below &
+    tell_proofs "$rt_log" $below &
     teller=$!
-    (cd "$folder" && "$@") >>"$log" 2>&1 </dev/null
+    (cd "$crate_folder" && "$@") >>"$rt_log" 2>&1 </dev/null
     ended=$?
     kill "$teller" 2>/dev/null
     wait "$teller" 2>/dev/null

@@ -2,7 +2,7 @@
 registry=/usr/share/cargo/registry
 machine=$(uname -m)
 # The static libraries that the loops stand in (crates/bench says why there are three).
-libraries='bench bench_read bench_binary'
+libraries='bench_c bench_read bench_binary'
 
 refuse() {
     printf 'speed: %s\n' "$1" >&2
@@ -12,9 +12,7 @@ refuse() {
 find_kit() {
     command -v rt >/dev/null 2>&1 || refuse "rt is not on the path: the Rattle kit has it"
     guide=$(rt doc 2>/dev/null) && [ -e "$guide" ] || refuse "rt doc does not say where the kit is"
-    kit=${guide%/docs/*}
-    tools=$kit/on/$machine/toolchain
-    [ -d "$tools" ] || tools=$kit/toolchain
+    tools=${guide%/*}/toolchain
     clang=$tools/bin/clang
     [ -x "$clang" ] || refuse "the kit's compiler is not at its place"
 }
