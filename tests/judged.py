@@ -95,25 +95,37 @@ returns c = lt-leb _ _ (omega arith)
 """,
 }
 
-# file to its edits: function, name, old and new
+WITHIN, SIZE = "proofs/is_within/Answers.antt", "proofs/size/Answers.antt"
+
+
+def brought_along(name):
+    """The replacements that bring the names in size's proof along, where its test has this name."""
+    return [
+        (SIZE, "pub returns-then-n-lt126 : goal.returns-then-n-lt126", f"pub returns-then-{name} : goal.returns-then-{name}"),
+        (SIZE, "returns-then-n-lt126 c =", f"returns-then-{name} c ="),
+    ]
+
+
+# file to its edits: function, name, old and new, and what they replace in a proof
 EDITS = {
     "counts": [
         ("is_within", "equal_is_above", "    if n <= most {", "    if n < most {"),
         ("is_above", "the_other_way_round", "!is_within(n, most)", "!is_within(most, n)"),
         ("is_short", "one_byte_more", "is_within(n, 125)", "is_within(n, 126)"),
         ("longest", "longest_of_126", "    125", "    126"),
-        ("size", "names_follow_their_test", "    if n < 126 {", "    if n < 125 {"),
+        ("size", "names_brought_along", "    if n < 126 {", "    if n < 125 {", *brought_along("n-lt125")),
     ],
     "not_wrong": [
         ("is_within", "never_within", "        return true;", "        return false;"),
         ("is_above", "not_wrong_while_its_callee_is", "!is_within(n, most)", "!(is_within(n, most))"),
         ("is_short", "no_longer_wrong", "is_within(n, 125)", "is_within(n, 0x7d)"),
         ("longest", "comment_changed", "as the RFC has it", "as the RFC has it in 5.5"),
-        ("size", "test_written_otherwise", "    if n < 126 {", "    if n <= 125 {"),
+        ("size", "test_written_otherwise", "    if n < 126 {", "    if n <= 125 {", *brought_along("n-le125")),
     ],
     "fit_lost": [
         ("is_above", "proof_speaks_of_a_call_that_is_gone", "!is_within(n, most)", "most < n"),
         ("is_short", "one_byte_less", "is_within(n, 125)", "is_within(n, 124)"),
+        ("size", "names_left_behind", "    if n < 126 {", "    if n < 127 {"),
     ],
     "field_lost": [
         ("is_within", "proof_speaks_of_a_place_that_is_gone", "    if n <= most {", "    if n < most || n == most {"),
@@ -125,6 +137,11 @@ EDITS = {
         ("is_within", "comment_above_a_function", "// The opposite.", "// The contrary."),
         ("longest", "longest_of_1", "    125", "    1"),
     ],
+    "proof_changed": [
+        ("is_above", "never_above", "!is_within(n, most)", "is_within(n, most)"),
+        ("longest", "proof_of_another", "    125", "    124", (WITHIN, "pub returns-then-n-most : goal.r", "pub returns-then-n-less : goal.r")),
+        ("size", "proof_changed_too", "        return 1;", "        return 1u64;", (SIZE, "returns c = lt-leb _ _", "returns c = le-leb _ _")),
+    ],
 }
 
 # what the judge has to say, and all of it
@@ -134,10 +151,14 @@ EXPECTED = {
     "tried/not_wrong: comment_changed: no fact of its function failed",
     "tried/not_wrong: test_written_otherwise: no fact of its function failed",
     "tried/fit_lost: proof_speaks_of_a_call_that_is_gone: the proof did not fit, so no fact was tried",
+    "tried/fit_lost: names_left_behind: the proof did not fit, so no fact was tried",
     "tried/field_lost: proof_speaks_of_a_place_that_is_gone: the proof did not fit, so no fact was tried",
     "tried/one_function: second_in_its_function: another wrong answer of the file is in the same function",
     "tried/one_function: comment_above_a_function: it does not change one function",
     "tried/one_function: comment_above_a_function: no fact of its function failed",
+    "tried/proof_changed: proof_of_another: it does not change one function",
+    "tried/proof_changed: proof_of_another: the proof did not fit, so no fact was tried",
+    "tried/proof_changed: proof_changed_too: it changes no code, or more of a proof than names",
 }
 
 
@@ -149,10 +170,12 @@ def lay_out(root):
     for function, proof in PROOFS.items():
         files[crate / "proofs" / function / "Answers.antt"] = proof
     for name, edits in EDITS.items():
-        texts = [f"wrong: {label}\nfile: src/lib.rt\nold: {old}\nnew: {new}\n" for _, label, old, new in edits]
-        files[crate / "must-fail" / f"{name}.edit"] = "\n".join(texts)
-        for function, label, _, _ in edits:
+        texts = []
+        for function, label, old, new, *more in edits:
+            pairs = [("src/lib.rt", old, new), *more]
+            texts.append(f"wrong: {label}\n" + "".join(f"file: {file}\nold: {one}\nnew: {other}\n" for file, one, other in pairs))
             rows.setdefault(function, []).append(f"`{label}`")
+        files[crate / "must-fail" / f"{name}.edit"] = "\n".join(texts)
     page = (f"| `tried::{function}` | promise | nothing | {', '.join(labels)} | one |\n" for function, labels in rows.items())
     files[root / "docs/PROMISES.md"] = "".join(page)
     for path, text in files.items():

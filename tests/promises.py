@@ -10,10 +10,16 @@ backticks in the fourth. A file crates/CRATE/must-fail/NAME.edit holds several w
     old: a text that stands once in that file
     new: what it becomes
 
+The names of a function's goals and steps follow its code. Where they change with it, further replacements bring the names in its proof
+along, and change nothing else of the proof:
+
+    file: proofs/f/Answers.antt
+    old: pub returns-then-n-lt125 : goal.returns-then-n-lt125
+    new: pub returns-then-n-lt126 : goal.returns-then-n-lt126
+
 `rt` refuses the file where any of them fails, so each one is judged here: it changes one function, in which nothing else of the file
 changes anything, and when the file is tried (tests/tried.py) a fact of that very function fails. A function's contract is all that others
-see of it, so a fact that fails in it fails for its own change. What shows nothing beside the others, since it took names away that the
-proof cites or since what it calls has failed, is tried once more alone."""
+see of it, so a fact that fails in it fails for its own change."""
 import re
 import sys
 import tempfile
@@ -24,6 +30,10 @@ import tried
 # No fact of a function was tried: what it rests on was refused, or its proof speaks of what is no longer there.
 FELL_WITH_ANOTHER = " not checked: "
 LOST_ITS_FIT = ["can be named from here", "has no field", "is not in scope"]
+
+# A word of a proof, and how the names of goals and steps begin that follow the code.
+WORD = re.compile(r"[^\s(){}\[\].,;:`]+")
+NAMED_BY_CODE = re.compile(r"(returns|if|in|then|else|loop|bounds|slice_bounds|shape_of|overflow_\w+)-")
 
 
 class Tally:
@@ -81,12 +91,6 @@ def proved_in(path):
     return ["::".join([*modules, name]) for name in function.split("+") if name]
 
 
-def proofs_of(crate, function):
-    """The files of proofs/ that prove a function, by their paths from the crate."""
-    files = (path.relative_to(crate) for path in (crate / "proofs").rglob("*.antt") if path.parent != crate / "proofs")
-    return [path for path in files if function in proved_in(path.relative_to("proofs"))]
-
-
 # ---- the wrong answers
 
 
@@ -114,17 +118,36 @@ def wrong_answers(edit):
     return wrongs if wrongs[0].replacements else wrongs[1:]
 
 
+def replacements_in(edit):
+    return [replacement for wrong in wrong_answers(edit) for replacement in wrong.replacements]
+
+
+def functions_of(crate, file, old):
+    """The functions that have this text of a file: those that the file proves, or the one whose code it is; a text outside of every
+    function is in None."""
+    if file.startswith("proofs/"):
+        return proved_in(Path(file).relative_to("proofs"))
+    return [function_at(crate / file, (crate / file).read_text(encoding="utf-8").split(old)[0].count("\n"))]
+
+
 def place_functions(crate, wrongs):
-    """Fills in which functions each wrong answer changes; a text outside of every function is in None."""
+    """Fills in which functions each wrong answer changes."""
     for wrong in wrongs:
         for file, old, _ in wrong.replacements:
-            before = (crate / file).read_text(encoding="utf-8").split(old)[0]
-            wrong.functions.add(function_at(crate / file, before.count("\n")))
+            wrong.functions.update(functions_of(crate, file, old))
+
+
+def is_of_code(wrong):
+    """Whether it changes code, and of a proof nothing but names that follow the code."""
+    pairs = [(WORD.findall(old), WORD.findall(new)) for file, old, new in wrong.replacements if not file.startswith("src/")]
+    changed = [words for old, new in pairs for words in zip(old, new) if words[0] != words[1]]
+    same_form = all(len(old) == len(new) for old, new in pairs) and all(NAMED_BY_CODE.match(word) for words in changed for word in words)
+    return same_form and len(pairs) < len(wrong.replacements)
 
 
 def failed_facts(said, crate):
     """The facts that failed, function by function: what the check says of a function's own proof files, or of its code where it makes the
-    proof itself. `crate` is the changed copy."""
+    proof itself. A wrong answer has a line for each line, so a line of the changed code is found in the crate as it is."""
     facts = {}
     for line in said.splitlines():
         error = re.match(r"\S*?\bproofs/(\S+/\w+\.antt):\d+:\d+: error: (.*)", line)
@@ -137,52 +160,23 @@ def failed_facts(said, crate):
     return facts
 
 
-def lost_its_fit(facts):
-    return any(sign in fact for fact in facts for sign in LOST_ITS_FIT)
-
-
-def shows(facts):
-    """Whether a fact failed, and each was tried."""
-    return not lost_its_fit(facts) and any(FELL_WITH_ANOTHER not in fact for fact in facts)
-
-
-class File:
-    """A file of wrong answers, and the facts that failed when it was tried, function by function."""
-
-    def __init__(self, trials, crate, edit):
-        self.crate, self.edit, self.wrongs = crate, edit, wrong_answers(edit)
-        place_functions(crate, self.wrongs)
-        everything = [replacement for wrong in self.wrongs for replacement in wrong.replacements]
-        self.facts = self.told(trials, *trials.together(crate.name, edit.stem, everything))
-        for number, wrong in enumerate(self.wrongs, 1):
-            functions = wrong.functions - {None}
-            if len(functions) == 1 and not any(shows(self.facts.get(function, [])) for function in functions):
-                self.try_alone(trials, number, wrong, *functions)
-
-    def try_alone(self, trials, number, wrong, function):
-        proofs = proofs_of(self.crate, function)
-        told = self.told(trials, *trials.alone(self.crate.name, f"{self.edit.stem}-{number}", wrong.replacements, function, proofs))
-        self.facts[function] = told.get(function, [])
-
-    def told(self, trials, said, folder):
-        facts = failed_facts(said, folder)
-        trials.drop(folder)
-        return facts
-
-
-def judge(tally, file):
-    """One file of wrong answers. Gives their names."""
+def judge(tally, crate, edit, said):
+    """One file of wrong answers, and what the check said of it. Gives their names."""
+    wrongs = wrong_answers(edit)
+    place_functions(crate, wrongs)
+    facts = failed_facts(said, crate)
     seen = set()
-    for wrong in file.wrongs:
-        said = f"{file.crate.name}/{file.edit.stem}: {wrong.name or 'a wrong answer without a name'}"
-        tally.check(bool(wrong.name and wrong.replacements), f"{said}: it needs a name and a replacement")
-        tally.check(len(wrong.functions) == 1 and None not in wrong.functions, f"{said}: it does not change one function")
-        tally.check(not wrong.functions & seen, f"{said}: another wrong answer of the file is in the same function")
+    for wrong in wrongs:
+        told = f"{crate.name}/{edit.stem}: {wrong.name or 'a wrong answer without a name'}"
+        tally.check(bool(wrong.name and wrong.replacements), f"{told}: it needs a name and a replacement")
+        tally.check(is_of_code(wrong), f"{told}: it changes no code, or more of a proof than names")
+        tally.check(len(wrong.functions) == 1 and None not in wrong.functions, f"{told}: it does not change one function")
+        tally.check(not wrong.functions & seen, f"{told}: another wrong answer of the file is in the same function")
         seen |= wrong.functions
-        found = [fact for function in wrong.functions for fact in file.facts.get(function, [])]
-        tally.check(not lost_its_fit(found), f"{said}: the proof did not fit, so no fact was tried")
-        tally.check(any(FELL_WITH_ANOTHER not in fact for fact in found), f"{said}: no fact of its function failed")
-    return [wrong.name for wrong in file.wrongs]
+        found = [fact for function in wrong.functions for fact in facts.get(function, [])]
+        tally.check(not any(sign in fact for fact in found for sign in LOST_ITS_FIT), f"{told}: the proof did not fit, so no fact was tried")
+        tally.check(any(FELL_WITH_ANOTHER not in fact for fact in found), f"{told}: no fact of its function failed")
+    return [wrong.name for wrong in wrongs]
 
 
 # ---- the page
@@ -210,19 +204,22 @@ def check_rows(tally, rows, libraries):
 
 
 def tried_files(tally, root, libraries):
-    """Every file of wrong answers, tried, by its crate. A crate that is not proved as it stands shows nothing."""
+    """Every file of wrong answers with what the check says of it, by its crate. A crate that is not proved as it stands shows nothing."""
     edits = [(crate, edit) for crate in libraries for edit in sorted((crate / "must-fail").glob("*.edit"))]
+    names = sorted({crate.name for crate, _ in edits})
     with tempfile.TemporaryDirectory(prefix="wrong-answers-") as room:
         trials = tried.Trials(root, Path(room))
-        proved = trials.proved({crate.name for crate, _ in edits})
-        for crate in sorted({crate.name for crate, _ in edits}):
-            tally.check(crate in proved, f"{crate} is not proved as it stands, so its wrong answers were not tried")
-        return tried.side_by_side(lambda pair: File(trials, *pair), [pair for pair in edits if pair[0].name in proved])
+        proved = trials.proved(names)
+        for name in names:
+            tally.check(name in proved, f"{name} is not proved as it stands, so its wrong answers were not tried")
+        edits = [(crate, edit) for crate, edit in edits if crate.name in proved]
+        said = tried.side_by_side(lambda pair: trials.changed(pair[0].name, pair[1].stem, replacements_in(pair[1])), edits)
+    return {crate: [(edit, words) for (of, edit), words in zip(edits, said) if of == crate] for crate in libraries}
 
 
 def check_crate(tally, crate, rows, files):
     """Every wrong answer of a crate is judged and in a row, and nothing else is in a row."""
-    names = [name for file in files if file.crate == crate for name in judge(tally, file)]
+    names = [name for edit, said in files for name in judge(tally, crate, edit, said)]
     named = {label for name, labels in rows.items() if name.split("::")[0] == crate.name for label in labels}
     for label in sorted({label for label in names if names.count(label) > 1}):
         tally.check(False, f"{crate.name}: two wrong answers are called {label}")
@@ -248,7 +245,7 @@ def main(words):
     check_rows(tally, rows, libraries)
     files = tried_files(tally, root, libraries)
     for crate in libraries:
-        check_crate(tally, crate, rows, files)
+        check_crate(tally, crate, rows, files[crate])
     check_laws(tally, root, promises)
     return tally.told()
 
