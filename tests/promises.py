@@ -182,15 +182,19 @@ def judge(tally, crate, edit, said):
 # ---- the page
 
 
+def cells_of_rows(promises):
+    """The cells of each function's row."""
+    lines = ([cell.strip() for cell in line.strip().strip("|").split("|")] for line in promises.splitlines())
+    return [cells for cells in lines if len(cells) == 5 and re.fullmatch(r"`[\w:]+`", cells[0])]
+
+
 def rows_of(tally, promises):
     """Public function to the wrong answers that its row names."""
     rows = {}
-    for line in promises.splitlines():
-        cells = [cell.strip() for cell in line.strip().strip("|").split("|")]
-        name = re.fullmatch(r"`([\w:]+)`", cells[0])
-        if name and len(cells) == 5:
-            tally.check(name[1] not in rows, f"docs/PROMISES.md has two rows for {name[1]}")
-            rows[name[1]] = re.findall(r"`(\w+)`", cells[-2])
+    for cells in cells_of_rows(promises):
+        name = cells[0].strip("`")
+        tally.check(name not in rows, f"docs/PROMISES.md has two rows for {name}")
+        rows[name] = re.findall(r"`(\w+)`", cells[-2])
     return rows
 
 
@@ -228,25 +232,46 @@ def check_crate(tally, crate, rows, files):
         tally.check(False, f"{crate.name}: {label} {where}")
 
 
-def check_laws(tally, root, promises):
-    # a hyphen is in no name of the code, so these are theorems and laws
-    texts = (path.read_text(encoding="utf-8") for path in (root / "crates").glob("*/proofs/*.antt"))
-    declared = {name for text in texts for name in re.findall(r"^ *pub ([\w-]+) :", text, re.M)}
-    for name in sorted(set(re.findall(r"`(\w+(?:-\w+)+)`", promises))):
-        tally.check(name in declared, f"docs/PROMISES.md names {name}, which no law file has")
+def declared(root, part, marked):
+    """The names that the files of specs/ or proofs/ declare: those marked so, or with '' all."""
+    texts = (path.read_text(encoding="utf-8") for path in (root / "crates").glob(f"*/{part}/*.antt"))
+    found = (names for text in texts for names in re.findall(rf"^ *(?:(?:unfoldable|abbrev) )?{marked}((?:[\w'-]+ )+):", text, re.M))
+    return {name for names in found for name in names.split()}
+
+
+def check_laws(tally, root, promises, libraries):
+    """The last cell of a row names laws alone. Elsewhere a word of several parts is a law, a definition, a function or a wrong answer."""
+    laws = declared(root, "proofs", "pub ")
+    functions = {f.path.split("::")[-1] for c in libraries for file in (c / "src").glob("*.rt") for f in functions_in(file)}
+    wrong = {wrong.name for c in libraries for edit in (c / "must-fail").glob("*.edit") for wrong in wrong_answers(edit)}
+    known = laws | declared(root, "specs", "(?:pub )?") | functions | wrong
+    last_cells = {name for cells in cells_of_rows(promises) for name in re.findall(r"`([\w'-]+)`", cells[-1])}
+    for name in sorted(last_cells):
+        tally.check(name in laws, f"docs/PROMISES.md names {name} as a law, which no law file has")
+    for name in sorted(set(re.findall(r"`([a-z]\w*(?:[_-]\w+)+)`", promises)) - last_cells):
+        tally.check(name in known, f"docs/PROMISES.md names {name}, which is nothing that the crates have")
+
+
+def libraries_of(root):
+    """The libraries. One that static libraries alone stand on has the loops that are measured (docs/SPEED.md): it promises that they are safe
+    and end, as a static library does, and has no rows."""
+    lines = re.findall(r"^(\w+)( staticlib)?:([^#\n]*)", (root / "crates.txt").read_text(encoding="utf-8"), re.M)
+    above = {name: [static for _, static, deps in lines if name in deps.split()] for name, _, _ in lines}
+    measured = {name for name, static, _ in lines if static or above[name] and all(above[name])}
+    return [c for c in sorted((root / "crates").iterdir()) if (c / "src/lib.rt").exists() and c.name not in measured]
 
 
 def main(words):
     root = Path(words[0]) if words else Path(__file__).resolve().parent.parent
     tally = Tally()
     promises = (root / "docs/PROMISES.md").read_text(encoding="utf-8")
-    libraries = [c for c in sorted((root / "crates").iterdir()) if (c / "src/lib.rt").exists()]
+    libraries = libraries_of(root)
     rows = rows_of(tally, promises)
     check_rows(tally, rows, libraries)
     files = tried_files(tally, root, libraries)
     for crate in libraries:
         check_crate(tally, crate, rows, files[crate])
-    check_laws(tally, root, promises)
+    check_laws(tally, root, promises, libraries)
     return tally.told()
 
 
