@@ -151,7 +151,7 @@ def failed_facts(said, crate):
     facts = {}
     for line in said.splitlines():
         error = re.match(r"\S*?\bproofs/(\S+/\w+\.antt):\d+:\d+: error: (.*)", line)
-        note = re.match(r"note: \S*?\b(src/\S+\.rt):(\d+):\d+: (it is not proved that .*)", line)
+        note = re.match(r"note: \S*?\b(src/\S+\.rt):(\d+):\d+: (.*(?:is not proved|found no proof).*)", line)
         if error:
             for function in proved_in(Path(error[1])):
                 facts.setdefault(function, []).append(error[2])
