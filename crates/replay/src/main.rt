@@ -61,10 +61,11 @@ fn more(
 ) -> io::Result<Went> {
     let refilled = input::refill(&mut rt.reader(), bytes, window);
     if refilled.failed {
-        write_out(rt, lines, at)?;
+        let written = write_out(rt, lines, at);
         match rt.eprintln("replay: the capture can't be read") {
             Ok(()) | Err(_) => {}
         }
+        written?;
         return Ok(ended(replay, refilled));
     }
     Ok(went_on(replay, refilled, at))
