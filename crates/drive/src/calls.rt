@@ -1,252 +1,178 @@
-// The calls: reads, sending calls and takes.
-use crate::state::{Control, Held, Message, Output, State, Text};
-use crate::told::Said;
-use crate::{ask, told};
-use frame::close::ClosePayload;
-use session::{Answer, Closing, Handed, Sent, Session, Turn};
+// A session, and the calls that a script makes of it.
+use crate::held::Held;
+use crate::line::{Call, Sending};
+use crate::room::Stores;
+use crate::told;
+use crate::told::Text;
+use session::{Answer, Closing, Handed, Masks, Session, Turn};
 
-// Where the piece of a read is: what is left over and the bytes given, or these alone.
-fn begun(state: State) -> State {
-    let args = state.args;
-    let to = input::sum(state.to, args.first as usize);
-    let word = state.word;
-    let mut next = state;
-    match word {
-        ask::AGAIN => {}
-        ask::CALL => {
-            next.from = state.to;
-            next.to = to;
-        }
-        _ => {
-            next.to = to;
-        }
-    }
-    next
+#[derive(Clone, Copy)]
+pub(crate) struct Live {
+    pub(crate) session: Session,
+    // of the next call that takes masks
+    pub(crate) masks: Masks,
+    // output stays where it is
+    pub(crate) keep: bool,
+    // a call was refused
+    pub(crate) refused: bool,
+    // `all` reads again, with this end flag
+    all: Option<bool>,
 }
 
-// Whether `all` reads again behind an answer with this word.
-fn again(said: usize) -> usize {
-    match said {
-        told::TEXT..=told::CLOSE => ask::AGAIN,
-        _ => ask::PASSED,
+fn no_masks() -> Masks {
+    Masks {
+        first: [0; 4],
+        second: [0; 4],
     }
-}
-
-// What a read leaves: what it took is gone, and it wrote no more bytes than it took. A `call` leaves nothing.
-fn left(state: State, taken: usize, said: usize) -> State {
-    let word = state.word;
-    let mut next = state;
-    next.reach = input::sum(state.reach, taken);
-    next.from = input::sum(state.from, taken);
-    match word {
-        ask::CALL => {
-            next.from = 0;
-            next.to = 0;
-        }
-        ask::READ => {}
-        _ => {
-            next.word = again(said);
-        }
-    }
-    next
-}
-
-// A read, with so much of the stores as is lent.
-fn read(
-    state: State,
-    piece: &[u8],
-    message: &mut [u8],
-    control: &mut [u8],
-    output: &mut [u8],
-) -> Turn {
-    let session = state.session;
-    let masks = state.masks;
-    let args = state.args;
-    let m = state.message;
-    let c = state.control;
-    let o = state.output;
-    if message.len() < m {
-        return none(session);
-    }
-    if control.len() < c {
-        return none(session);
-    }
-    if output.len() < o {
-        return none(session);
-    }
-    reader::read::read(
-        session,
-        piece,
-        args.second == 1,
-        masks,
-        &mut message[0..m],
-        &mut control[0..c],
-        &mut output[0..o],
-    )
-}
-
-// Of stores that are smaller than what is lent of them, which `lend` never leaves.
-fn none(session: Session) -> Turn {
-    Turn {
-        answer: Answer::Refused(1),
-        taken: 0,
-        session,
-    }
-}
-
-// A read's answer, up to what is put out.
-fn told_of<'a>(
-    state: State,
-    turn: Turn,
-    message: &'a [u8],
-    control: &'a [u8],
-    out: &mut Text,
-) -> State {
-    let answer = turn.answer;
-    let after = turn.session;
-    let part = reader::part::part(answer, message, control);
-    let said = told::answer(answer);
-    let worded = told::say(out, state.at, said);
-    let shown = script::answers::hex(out, worded, part);
-    let named = script::answers::put(out, shown, b" taken");
-    let numbered = script::answers::number(out, named, turn.taken as u64);
-    called(
-        left(state, turn.taken, said.word),
-        after,
-        said.word,
-        numbered,
-    )
-}
-
-// `read HEX END`, `call HEX END`, `all HEX END`
-pub(crate) fn reads(
-    state: State,
-    held: &Held,
-    message: &mut Message,
-    control: &mut Control,
-    output: &mut Output,
-    out: &mut Text,
-) -> State {
-    let begun = begun(state);
-    let piece = script::words::behind(input::front(held, begun.to), begun.from);
-    let turn = read(begun, piece, message, control, output);
-    let next = told_of(
-        begun,
-        turn,
-        input::front(message, begun.message),
-        input::front(control, begun.control),
-        out,
-    );
-    done(next, output, out)
 }
 
 // An empty close, or one whose code is the first two bytes.
-fn closing(bytes: &[u8]) -> Closing {
-    match frame::close::into_close(bytes) {
-        ClosePayload::CodeAndReason(code) => Closing::Code(code),
-        _ => Closing::Empty,
+fn close(session: Session, bytes: &[u8], masks: Masks, output: &mut [u8]) -> Handed {
+    match bytes.split_first_chunk::<2>() {
+        Some((code, reason)) => writer::send::close(
+            session,
+            Closing::Code(u16::from_be_bytes(*code)),
+            reason,
+            masks,
+            output,
+        ),
+        None => writer::send::close(session, Closing::Empty, b"", masks, output),
     }
 }
 
-fn handed(state: State, bytes: &[u8], output: &mut [u8]) -> Handed {
-    let session = state.session;
-    let masks = state.masks;
-    let word = state.word;
-    match word {
-        ask::TEXT => writer::send::text(session, bytes, masks, output),
-        ask::BINARY => writer::send::binary(session, bytes, masks, output),
-        ask::PING => writer::send::ping(session, bytes, masks, output),
-        ask::PONG => writer::send::pong(session, bytes, masks, output),
-        _ => {
-            let reason = script::words::behind(bytes, 2);
-            writer::send::close(session, closing(bytes), reason, masks, output)
+impl Live {
+    pub(crate) fn new(session: Session) -> Live {
+        Live {
+            session,
+            masks: no_masks(),
+            keep: false,
+            refused: false,
+            all: None,
         }
     }
-}
 
-// A sending call or a take, with so much of the output as is lent.
-fn send(state: State, bytes: &[u8], output: &mut [u8]) -> Handed {
-    let session = state.session;
-    let args = state.args;
-    let o = state.output;
-    if output.len() < o {
-        return Handed {
-            sent: Sent::Refused(1),
-            session,
+    // Behind a call: the session that it left; and a refusal counts. What it put out ends where the held bytes do.
+    fn called(&mut self, session: Session, refused: bool, stores: &mut Stores) {
+        self.session = session;
+        self.refused = self.refused || refused;
+        stores.reaches(session.held);
+    }
+
+    // The end of a call that takes masks: they are used up, and the held bytes are shown and taken, but where output is kept.
+    fn put_out(&mut self, stores: &mut Stores, text: &mut Text<'_>) {
+        self.masks = no_masks();
+        if !self.keep {
+            let bytes = writer::output::held(self.session, stores.output());
+            let n = bytes.len();
+            if 0 < n {
+                told::counted(text, b" put", n as u64);
+                text.hex(bytes);
+                self.session = writer::output::take(self.session, n, stores.output_mut()).session;
+            }
+        }
+        text.put(b"\n");
+    }
+
+    // A read of this piece.
+    fn read(&mut self, piece: &[u8], end: bool, stores: &mut Stores, text: &mut Text<'_>) -> Turn {
+        let turn = stores.read(self.session, piece, end, self.masks);
+        told::answer(text, turn.answer);
+        text.hex(reader::part::part(turn.answer, stores.message(), stores.control()));
+        told::counted(text, b" taken", turn.taken as u64);
+        self.called(
+            turn.session,
+            matches!(turn.answer, Answer::Refused(_)),
+            stores,
+        );
+        self.put_out(stores, text);
+        turn
+    }
+
+    // A read of what is left over, which then is less.
+    fn read_on(
+        &mut self,
+        end: bool,
+        held: &mut Held,
+        stores: &mut Stores,
+        text: &mut Text<'_>,
+    ) -> Answer {
+        let turn = self.read(held.piece(), end, stores, text);
+        held.take(turn.taken);
+        turn.answer
+    }
+
+    // A read of `all`, which reads again behind an event.
+    fn read_all(&mut self, end: bool, held: &mut Held, stores: &mut Stores, text: &mut Text<'_>) {
+        self.all = match self.read_on(end, held, stores, text) {
+            Answer::More | Answer::Closed | Answer::Refused(_) => None,
+            _ => Some(end),
         };
     }
-    if state.word == ask::TAKE {
-        return writer::output::take(session, args.first as usize, &mut output[0..o]);
-    }
-    handed(state, bytes, &mut output[0..o])
-}
 
-// `text HEX`, `binary HEX`, `ping HEX`, `pong HEX`, `close HEX` and `take N`
-pub(crate) fn sends(state: State, held: &Held, output: &mut Output, out: &mut Text) -> State {
-    let args = state.args;
-    let bytes = crate::room::given(held, state.to, args.first);
-    let handed = send(state, bytes, output);
-    let sent = handed.sent;
-    let after = handed.session;
-    let said = told::sent(sent);
-    let worded = told::say(out, state.at, said);
-    done(called(state, after, said.word, worded), output, out)
-}
+    // Another read of `all`, or false where it is over.
+    pub(crate) fn reads_again(
+        &mut self,
+        held: &mut Held,
+        stores: &mut Stores,
+        text: &mut Text<'_>,
+    ) -> bool {
+        if let Some(end) = self.all {
+            self.read_all(end, held, stores, text);
+            return true;
+        }
+        false
+    }
 
-// Behind a call: the session that it left; and a refusal counts. Its masks are used up, but a take takes none. What it put out ends where
-// the held bytes do.
-fn called(state: State, session: Session, said: usize, at: usize) -> State {
-    let mut next = state;
-    next.session = session;
-    next.at = at;
-    next.reach = input::sum(state.reach, session.held);
-    if said == told::REFUSED {
-        next.refused = true;
+    // `text HEX`, `binary HEX`, `ping HEX`, `pong HEX` and `close HEX`
+    fn send(&mut self, sending: Sending, bytes: &[u8], stores: &mut Stores, text: &mut Text<'_>) {
+        let output = stores.output_mut();
+        let handed = match sending {
+            Sending::Text => writer::send::text(self.session, bytes, self.masks, output),
+            Sending::Binary => writer::send::binary(self.session, bytes, self.masks, output),
+            Sending::Ping => writer::send::ping(self.session, bytes, self.masks, output),
+            Sending::Pong => writer::send::pong(self.session, bytes, self.masks, output),
+            Sending::Close => close(self.session, bytes, self.masks, output),
+        };
+        self.handed(handed, stores, text);
+        self.put_out(stores, text);
     }
-    if state.word != ask::TAKE {
-        let masks = crate::state::no_masks();
-        next.masks = masks;
-    }
-    next
-}
 
-// The bytes that a call's line shows as put out: those that are held, none where they are to be kept.
-fn shown(state: State, output: &Output) -> &[u8] {
-    let session = state.session;
-    if state.keep {
-        return input::front(output, 0);
+    // `take N`
+    fn take(&mut self, n: usize, stores: &mut Stores, text: &mut Text<'_>) {
+        let handed = writer::output::take(self.session, n, stores.output_mut());
+        self.handed(handed, stores, text);
+        text.put(b"\n");
     }
-    if state.word == ask::TAKE {
-        return input::front(output, 0);
-    }
-    writer::output::held(session, input::front(output, state.output))
-}
 
-// Takes all that is held.
-fn emptied(state: State, n: usize, output: &mut [u8]) -> Session {
-    let session = state.session;
-    let o = state.output;
-    if output.len() < o {
-        return session;
+    fn handed(&mut self, handed: Handed, stores: &mut Stores, text: &mut Text<'_>) {
+        told::sent(text, handed.sent);
+        self.called(handed.session, told::refusal(handed.sent).is_some(), stores);
     }
-    let taken = writer::output::take(session, n, &mut output[0..o]);
-    taken.session
-}
 
-// The end of a call's line: shows the held bytes and takes them all.
-fn done(state: State, output: &mut Output, out: &mut Text) -> State {
-    let bytes = shown(state, output);
-    let n = bytes.len();
-    let mut next = state;
-    if n == 0 {
-        next.at = told::end(out, state.at);
-        return next;
+    // A call, or none where the bytes given have no room behind what is left over.
+    pub(crate) fn call(
+        &mut self,
+        call: Call,
+        held: &mut Held,
+        stores: &mut Stores,
+        text: &mut Text<'_>,
+    ) -> Option<()> {
+        match call {
+            Call::Read(n, end) => {
+                held.join(n)?;
+                self.read_on(end, held, stores, text);
+            }
+            Call::Call(n, end) => {
+                self.read(held.given(n), end, stores, text);
+                held.clear();
+            }
+            Call::All(n, end) => {
+                held.join(n)?;
+                self.read_all(end, held, stores, text);
+            }
+            Call::Send(sending, n) => self.send(sending, held.given(n), stores, text),
+            Call::Take(n) => self.take(n, stores, text),
+        }
+        Some(())
     }
-    let named = script::answers::put(out, state.at, b" put");
-    let numbered = script::answers::number(out, named, n as u64);
-    let hexed = script::answers::hex(out, numbered, bytes);
-    next.at = told::end(out, hexed);
-    let after = emptied(state, n, output);
-    next.session = after;
-    next
 }

@@ -1,157 +1,85 @@
-// `set FIELD VALUE`: a session's number set by hand. A field is the place of its name.
-use crate::names;
-use crate::state::State;
-use session::{Incoming, Reply, Session, Settings, Waiting};
+// `set FIELD VALUE`: a session's number set by hand.
+use crate::line::{bytes, flag, number};
+use session::{Session, Waiting};
 
-fn header(bytes: &[u8]) -> [u8; 14] {
-    let mut header = [0u8; 14];
-    crate::room::lay_over(input::front(bytes, 14), &mut header, 0);
-    header
+// A field and its value.
+#[derive(Clone, Copy)]
+pub(crate) enum Field {
+    Role(u8),
+    Frame(usize),
+    Message(usize),
+    Unmasked(bool),
+    State(u8),
+    Refusal(u8),
+    Header([u8; 14]),
+    Kept(usize),
+    Counted(usize),
+    Begun(bool),
+    Text(bool),
+    Fragments(usize),
+    Progress(u8),
+    Waiting(Waiting),
+    Length(usize),
+    Payload([u8; 125]),
+    Held(usize),
 }
 
-fn payload(bytes: &[u8]) -> [u8; 125] {
-    let mut payload = [0u8; 125];
-    crate::room::lay_over(input::front(bytes, 125), &mut payload, 0);
-    payload
+fn byte(word: &[u8]) -> Option<u8> {
+    u8::try_from(number(word)?).ok()
 }
 
-fn waiting(n: u64) -> Waiting {
-    match n {
-        0 => Waiting::Nothing,
-        1 => Waiting::Pong,
-        _ => Waiting::Close,
+fn waiting(word: &[u8]) -> Option<Waiting> {
+    match word {
+        b"0" => Some(Waiting::Nothing),
+        b"1" => Some(Waiting::Pong),
+        b"2" => Some(Waiting::Close),
+        _ => None,
     }
 }
 
-// A number below 256.
-fn small(n: u64) -> u8 {
-    (n % 256) as u8
-}
-
-fn settings_with(settings: Settings, field: u64, n: u64) -> Settings {
-    let mut next = settings;
-    match field {
-        names::MESSAGE => {
-            next.message = n as usize;
-            next
+impl Field {
+    pub(crate) fn of(name: &[u8], value: &[u8]) -> Option<Field> {
+        match name {
+            b"role" => Some(Field::Role(byte(value)?)),
+            b"frame" => Some(Field::Frame(number(value)?)),
+            b"message" => Some(Field::Message(number(value)?)),
+            b"unmasked" => Some(Field::Unmasked(flag(value)?)),
+            b"state" => Some(Field::State(byte(value)?)),
+            b"refusal" => Some(Field::Refusal(byte(value)?)),
+            b"header" => Some(Field::Header(bytes(value)?)),
+            b"kept" => Some(Field::Kept(number(value)?)),
+            b"counted" => Some(Field::Counted(number(value)?)),
+            b"begun" => Some(Field::Begun(flag(value)?)),
+            b"text" => Some(Field::Text(flag(value)?)),
+            b"fragments" => Some(Field::Fragments(number(value)?)),
+            b"progress" => Some(Field::Progress(byte(value)?)),
+            b"waiting" => Some(Field::Waiting(waiting(value)?)),
+            b"length" => Some(Field::Length(number(value)?)),
+            b"payload" => Some(Field::Payload(bytes(value)?)),
+            b"held" => Some(Field::Held(number(value)?)),
+            _ => None,
         }
-        names::FRAME => {
-            next.frame = n as usize;
-            next
-        }
-        names::ROLE => {
-            next.role = small(n);
-            next
-        }
-        names::UNMASKED => {
-            next.unmasked = n == 1;
-            next
-        }
-        _ => settings,
     }
-}
 
-fn incoming_with(incoming: Incoming, field: u64, n: u64, bytes: &[u8]) -> Incoming {
-    let mut next = incoming;
-    match field {
-        names::HEADER => {
-            let header = header(bytes);
-            next.header = header;
-            next
+    pub(crate) fn set(self, session: &mut Session) {
+        match self {
+            Field::Role(n) => session.settings.role = n,
+            Field::Frame(n) => session.settings.frame = n,
+            Field::Message(n) => session.settings.message = n,
+            Field::Unmasked(on) => session.settings.unmasked = on,
+            Field::State(n) => session.state = n,
+            Field::Refusal(n) => session.refusal = n,
+            Field::Header(bytes) => session.incoming.header = bytes,
+            Field::Kept(n) => session.incoming.kept = n,
+            Field::Counted(n) => session.incoming.counted = n,
+            Field::Begun(on) => session.incoming.begun = on,
+            Field::Text(on) => session.incoming.text = on,
+            Field::Fragments(n) => session.incoming.fragments = n,
+            Field::Progress(n) => session.incoming.progress = n,
+            Field::Waiting(waiting) => session.reply.waiting = waiting,
+            Field::Length(n) => session.reply.length = n,
+            Field::Payload(bytes) => session.reply.payload = bytes,
+            Field::Held(n) => session.held = n,
         }
-        names::KEPT => {
-            next.kept = n as usize;
-            next
-        }
-        names::COUNTED => {
-            next.counted = n as usize;
-            next
-        }
-        names::BEGUN => {
-            next.begun = n == 1;
-            next
-        }
-        names::TEXT => {
-            next.text = n == 1;
-            next
-        }
-        names::FRAGMENTS => {
-            next.fragments = n as usize;
-            next
-        }
-        names::PROGRESS => {
-            next.progress = small(n);
-            next
-        }
-        _ => incoming,
     }
-}
-
-fn reply_with(reply: Reply, field: u64, n: u64, bytes: &[u8]) -> Reply {
-    let mut next = reply;
-    match field {
-        names::WAITING => {
-            let payload = reply.payload;
-            Reply {
-                waiting: waiting(n),
-                length: reply.length,
-                payload,
-            }
-        }
-        names::LENGTH => {
-            next.length = n as usize;
-            next
-        }
-        names::PAYLOAD => {
-            let payload = payload(bytes);
-            next.payload = payload;
-            next
-        }
-        _ => reply,
-    }
-}
-
-fn session_with(session: Session, field: u64, n: u64) -> Session {
-    let mut next = session;
-    match field {
-        names::STATE => {
-            next.state = small(n);
-            next
-        }
-        names::REFUSAL => {
-            next.refusal = small(n);
-            next
-        }
-        names::HELD => {
-            next.held = n as usize;
-            next
-        }
-        _ => session,
-    }
-}
-
-// Each part of the session, of which one has the field.
-fn with(session: Session, field: u64, n: u64, bytes: &[u8]) -> Session {
-    let settings = session.settings;
-    let incoming = session.incoming;
-    let reply = session.reply;
-    let set = settings_with(settings, field, n);
-    let come = incoming_with(incoming, field, n, bytes);
-    let waits = reply_with(reply, field, n, bytes);
-    let mut next = session_with(session, field, n);
-    next.settings = set;
-    next.incoming = come;
-    next.reply = waits;
-    next
-}
-
-// A session that was altered by hand can have a byte written anywhere.
-pub(crate) fn set(state: State, bytes: &[u8]) -> State {
-    let args = state.args;
-    let session = state.session;
-    let changed = with(session, args.first, args.second, bytes);
-    let mut next = state;
-    next.session = changed;
-    next.reach = 140000;
-    next
 }

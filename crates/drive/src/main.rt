@@ -2,193 +2,172 @@
 // answer is that of a public call. A write that fails ends the run, as main's error.
 #![tactic(auto)]
 
-mod ask;
-mod begin;
 mod calls;
 mod fields;
-mod names;
+mod held;
+mod line;
 mod room;
 mod shows;
 mod state;
 mod told;
 
-use crate::state::{Bytes, Control, Held, Message, Output, State, Text};
+use crate::state::State;
+use crate::told::Text;
+use input::Window;
 use std::io;
+use std::ops::ControlFlow;
 
 // The longest line, without its line feed.
 const LONGEST: usize = 300100;
 
-// What the bytes that are there begin with, where the first line feed is at place n of so many: a line, or more of the script is wanted.
-fn what(n: usize, of: usize, ended: bool) -> usize {
-    if LONGEST < n {
-        return ask::BAD;
-    }
-    if n < of {
-        return ask::LINE;
-    }
-    if !ended {
-        return ask::PASSED;
-    }
-    if n == 0 {
-        return ask::END;
-    }
-    ask::LINE
+// The script.
+#[derive(Drop)]
+struct Script {
+    // the window on the bytes that were read and are not used yet: the longest line, its line feed, and room to read behind them
+    bytes: [u8; 327680],
+    window: Window,
+    // the number of the line under way
+    line: u64,
 }
 
-// More bytes of the script are wanted. The answers are written first: whoever writes the script may wait for them. A read that fails is not
-// the script's end: the line that it would have given is bad, and it is said.
-fn more(
-    rt: &(impl Input + Print + Eprint),
+// What a turn is about: a line, without its line feed; one that is too long; more of the script, which is wanted; or its end.
+enum Next<'a> {
+    Line(&'a [u8]),
+    Long,
+    More,
+    End,
+}
+
+impl Script {
+    fn new() -> Script {
+        Script {
+            bytes: [0; 327680],
+            window: input::none(),
+            line: 0,
+        }
+    }
+
+    fn next(&mut self) -> Next<'_> {
+        let window = self.window;
+        let shown = input::shown(&self.bytes, window);
+        let n = script::words::find(shown, b'\n');
+        if n <= LONGEST && n == shown.len() {
+            if !window.ended {
+                return Next::More;
+            }
+            if n == 0 {
+                return Next::End;
+            }
+        }
+        self.window = input::used(window, input::sum(n, 1));
+        self.line = self.line.wrapping_add(1);
+        if LONGEST < n {
+            return Next::Long;
+        }
+        Next::Line(input::front(shown, n))
+    }
+}
+
+// A script that is run, and what it has made so far.
+#[derive(Drop)]
+struct Run {
+    script: Script,
     state: State,
-    bytes: &mut Bytes,
-    out: &Text,
-) -> io::Result<State> {
-    rt.write_all(input::front(out, state.at))?;
-    let window = state.window;
-    let refilled = input::refill(&mut rt.reader(), bytes, window);
-    let mut next = state;
-    next.window = refilled;
-    next.at = 0;
-    if refilled.failed {
-        next.word = ask::BAD;
-        next.line = state.line.wrapping_add(1);
-        // where that can't be said either, the answer still is that the line is bad
-        match rt.eprintln("drive: the script can't be read") {
-            Ok(()) | Err(_) => {}
+}
+
+// Writes the answers so far.
+fn write(rt: &impl Print, text: &mut Text<'_>) -> io::Result<()> {
+    let at = text.at;
+    rt.write_all(input::front(text.store, at))?;
+    text.at = 0;
+    Ok(())
+}
+
+impl Run {
+    fn new() -> Run {
+        Run {
+            script: Script::new(),
+            state: State::new(),
         }
     }
-    Ok(next)
-}
 
-// The next line, or more of the script; nothing where `all` reads again.
-fn feed(
-    rt: &(impl Input + Print + Eprint),
-    state: State,
-    bytes: &mut Bytes,
-    out: &Text,
-) -> io::Result<State> {
-    if state.word == ask::AGAIN {
-        return Ok(state);
-    }
-    let before = state.window;
-    let window = input::used(before, state.used);
-    let shown = input::shown(bytes, window);
-    let n = script::words::find(shown, b'\n');
-    let mut next = state;
-    next.window = window;
-    next.word = what(n, shown.len(), window.ended);
-    next.used = 0;
-    if next.word == ask::PASSED {
-        return more(rt, next, bytes, out);
-    }
-    next.length = n;
-    next.used = input::sum(n, 1);
-    next.line = state.line.wrapping_add(1);
-    Ok(next)
-}
-
-// A script that alters stores can have a byte anywhere.
-fn by_hand(mut state: State) -> State {
-    state.reach = 140000;
-    state
-}
-
-// What a line does.
-fn act(
-    state: State,
-    line: &[u8],
-    held: &Held,
-    message: &mut Message,
-    control: &mut Control,
-    output: &mut Output,
-    out: &mut Text,
-) -> State {
-    let word = state.word;
-    match word {
-        ask::READ | ask::CALL | ask::ALL | ask::AGAIN => {
-            calls::reads(state, held, message, control, output, out)
+    // More bytes of the script are wanted. The answers are written first: whoever writes the script may wait for them. A read that fails is
+    // not the script's end: the line that it would have given is bad, and it is said.
+    fn more(
+        &mut self,
+        rt: &(impl Input + Print + Eprint),
+        text: &mut Text<'_>,
+    ) -> io::Result<ControlFlow<()>> {
+        write(rt, text)?;
+        let script = &mut self.script;
+        script.window = input::refill(&mut rt.reader(), &mut script.bytes, script.window);
+        if !script.window.failed {
+            return Ok(ControlFlow::Continue(()));
         }
-        ask::TEXT..=ask::TAKE => calls::sends(state, held, output, out),
-        ask::SESSION => {
-            room::clear(state.reach, message, control, output);
-            begin::session(state, line, out)
-        }
-        ask::LAY => {
-            room::lay(state, held, message, control, output);
-            by_hand(state)
-        }
-        ask::UNTIL..=ask::SET => begin::settings(state, held),
-        ask::STORES => shows::stores(state, message, control, output, out),
-        ask::PASSED | ask::END => state,
-        _ => shows::shows(state, output, out),
+        script.line = script.line.wrapping_add(1);
+        // where that can't be said, the answer still is that the line is bad
+        let _ = rt.eprintln("drive: the script can't be read");
+        Ok(self.bad(text))
     }
-}
 
-// One turn: a line, another read of `all`, or more of the script.
-fn turn(
-    rt: &(impl Input + Print + Eprint),
-    state: State,
-    bytes: &mut Bytes,
-    held: &mut Held,
-    message: &mut Message,
-    control: &mut Control,
-    output: &mut Output,
-    out: &mut Text,
-) -> io::Result<State> {
-    let fed = feed(rt, state, bytes, out)?;
-    let window = fed.window;
-    let line = input::front(input::shown(bytes, window), fed.length);
-    let asked = ask::ask(fed, line, held);
-    Ok(act(asked, line, held, message, control, output, out))
-}
-
-// The answers are written out once they fill an eighth of their room: what is left has room for those of the longest turn, of `stores` that
-// shows 70,000 bytes, 256 and 140,000.
-fn written(rt: &impl Print, state: State, out: &Text) -> io::Result<State> {
-    if state.at < 65536 {
-        return Ok(state);
+    fn bad(&self, text: &mut Text<'_>) -> ControlFlow<()> {
+        told::counted(text, b"bad line", self.script.line);
+        text.put(b"\n");
+        ControlFlow::Break(())
     }
-    rt.write_all(input::front(out, state.at))?;
-    let mut next = state;
-    next.at = 0;
-    Ok(next)
-}
 
-// A proved loop has to end, and nothing says that the script does. So the loop counts its turns, up to a number that no run uses up.
-fn run(
-    rt: &(impl Input + Print + Eprint),
-    bytes: &mut Bytes,
-    held: &mut Held,
-    message: &mut Message,
-    control: &mut Control,
-    output: &mut Output,
-    out: &mut Text,
-) -> io::Result<()> {
-    let mut state = state::none();
-    for _ in 0..u64::MAX {
-        let turned = turn(rt, state, bytes, held, message, control, output, out)?;
-        state = written(rt, turned, out)?;
-        if state.word == ask::END {
-            break;
+    // One turn: another read of `all`, a line, or more of the script.
+    fn turn(
+        &mut self,
+        rt: &(impl Input + Print + Eprint),
+        text: &mut Text<'_>,
+    ) -> io::Result<ControlFlow<()>> {
+        if self.state.reads_again(text) {
+            return Ok(ControlFlow::Continue(()));
+        }
+        match self.script.next() {
+            Next::Line(line) => {
+                if self.state.line(line, text).is_some() {
+                    return Ok(ControlFlow::Continue(()));
+                }
+                Ok(self.bad(text))
+            }
+            Next::Long => Ok(self.bad(text)),
+            Next::More => self.more(rt, text),
+            Next::End => Ok(ControlFlow::Break(())),
         }
     }
-    rt.write_all(input::front(out, state.at))
+
+    // Turns to the script's end. The answers are written out once they fill an eighth of their room: what is left has room for those of
+    // the longest turn, of `stores` that shows 70,000 bytes, 256 and 140,000. A proved loop has to end, and nothing says that the script
+    // does. So the loop counts its turns, up to a number that no run uses up.
+    fn to_end(
+        &mut self,
+        rt: &(impl Input + Print + Eprint),
+        text: &mut Text<'_>,
+    ) -> io::Result<()> {
+        for _ in 0..u64::MAX {
+            let turned = self.turn(rt, text)?;
+            if 65536 <= text.at {
+                write(rt, text)?;
+            }
+            if turned.is_break() {
+                break;
+            }
+        }
+        write(rt, text)
+    }
+}
+
+// It does not stand where the array does, since that is dear to check.
+fn drive(rt: &(impl Input + Print + Eprint), answers: &mut [u8; 524288]) -> io::Result<()> {
+    let mut text = Text {
+        store: answers,
+        at: 0,
+    };
+    Run::new().to_end(rt, &mut text)
 }
 
 fn main(rt: HostRuntime) -> io::Result<()> {
-    let mut bytes = [0u8; 327680];
-    let mut held = [0u8; 300000];
-    let mut message = [0u8; 70000];
-    let mut control = [0u8; 256];
-    let mut output = [0u8; 140000];
-    let mut out = [0u8; 524288];
-    run(
-        &rt,
-        &mut bytes,
-        &mut held,
-        &mut message,
-        &mut control,
-        &mut output,
-        &mut out,
-    )
+    drive(&rt, &mut [0; 524288])
 }

@@ -1,55 +1,168 @@
-// The room of the stores: zeros at first, and what a script lays over it.
-use crate::names;
-use crate::state::{Control, Held, Message, Output, State};
+// The three stores, and what a script lends of them and lays over them.
+ghost use Rattle.std.specs.Prelude.{◌≤◌};
 
-// Zeros over the first n bytes.
-fn zero(store: &mut [u8], n: usize) {
-    let most = n.min(store.len());
-    store[..most].fill(0);
+use session::{Masks, Session, Turn};
+
+#[derive(Clone, Copy)]
+pub(crate) enum Store {
+    Message,
+    Control,
+    Output,
 }
 
-// All zeros, as a session finds them.
-pub(crate) fn clear(
+impl Store {
+    pub(crate) fn named(name: &[u8]) -> Option<Store> {
+        match name {
+            b"message" => Some(Store::Message),
+            b"control" => Some(Store::Control),
+            b"output" => Some(Store::Output),
+            _ => None,
+        }
+    }
+}
+
+// How many bytes of a store are lent.
+#[derive(Clone, Copy)]
+struct Lent<const N: usize> {
+    n: usize,
+    ghost within: { n ≤ N },
+}
+
+// The room of a store.
+#[derive(Drop)]
+struct Room<const N: usize> {
+    bytes: [u8; N],
+    lent: Lent<N>,
+}
+
+impl<const N: usize> Room<N> {
+    fn new() -> Room<N> {
+        Room {
+            bytes: [0; N],
+            lent: Lent { n: 0 },
+        }
+    }
+
+    // Zeros again, where no byte behind so many was written.
+    fn clear(&mut self, reach: usize) {
+        self.bytes[..reach.min(N)].fill(0);
+    }
+
+    // Lends so many bytes, if it has as many.
+    fn lend(&mut self, n: usize) -> Option<()> {
+        if N < n {
+            return None;
+        }
+        self.lent = Lent { n };
+        Some(())
+    }
+
+    fn lent(&self) -> &[u8] {
+        &self.bytes[..self.lent.n]
+    }
+
+    fn lent_mut(&mut self) -> &mut [u8] {
+        let n = self.lent.n;
+        &mut self.bytes[..n]
+    }
+
+    // Lays bytes over it from a place on, if they fit.
+    fn lay(&mut self, at: usize, bytes: &[u8]) -> Option<()> {
+        let all = &mut self.bytes[..];
+        all.get_mut(at..)?
+            .get_mut(..bytes.len())?
+            .copy_from_slice(bytes);
+        Some(())
+    }
+}
+
+#[derive(Drop)]
+pub(crate) struct Stores {
+    message: Room<70000>,
+    control: Room<256>,
+    output: Room<140000>,
+    // no byte of the message and output stores behind this place was written since they were zeros
     reach: usize,
-    message: &mut Message,
-    control: &mut Control,
-    output: &mut Output,
-) {
-    zero(message, reach);
-    zero(control, 256);
-    zero(output, reach);
 }
 
-// The bytes that a line gives, which stand behind what is left over.
-pub(crate) fn given(held: &Held, to: usize, n: u64) -> &[u8] {
-    script::words::behind(input::front(held, input::sum(to, n as usize)), to)
-}
-
-// Lays bytes over a store from a place on. Those that do not fit, which no line asks for, are left out.
-pub(crate) fn lay_over(bytes: &[u8], store: &mut [u8], at: usize) {
-    if store.len() < at {
-        return;
+impl Stores {
+    pub(crate) fn new() -> Stores {
+        Stores {
+            message: Room::new(),
+            control: Room::new(),
+            output: Room::new(),
+            reach: 0,
+        }
     }
-    if store.len() - at < bytes.len() {
-        return;
-    }
-    stores::copy(bytes, store, at);
-}
 
-// `lay message|control|output AT HEX`
-pub(crate) fn lay(
-    state: State,
-    held: &Held,
-    message: &mut Message,
-    control: &mut Control,
-    output: &mut Output,
-) {
-    let args = state.args;
-    let bytes = given(held, state.to, args.third);
-    let store = args.first;
-    match store {
-        names::CONTROL => lay_over(bytes, control, args.second as usize),
-        names::OUTPUT => lay_over(bytes, output, args.second as usize),
-        _ => lay_over(bytes, message, args.second as usize),
+    // All zeros.
+    pub(crate) fn clear(&mut self) {
+        self.message.clear(self.reach);
+        self.control.clear(256);
+        self.output.clear(self.reach);
+        self.reach = 0;
+    }
+
+    // So many bytes of each are lent, where it has as many.
+    pub(crate) fn lend(&mut self, message: usize, control: usize, output: usize) -> Option<()> {
+        self.message.lend(message)?;
+        self.control.lend(control)?;
+        self.output.lend(output)
+    }
+
+    // As at the start of a session with this message limit.
+    pub(crate) fn lend_at_first(&mut self, limit: usize) {
+        let _ = self.lend(limit.min(70000), 125, 140000);
+    }
+
+    pub(crate) fn message(&self) -> &[u8] {
+        self.message.lent()
+    }
+
+    pub(crate) fn control(&self) -> &[u8] {
+        self.control.lent()
+    }
+
+    pub(crate) fn output(&self) -> &[u8] {
+        self.output.lent()
+    }
+
+    pub(crate) fn output_mut(&mut self) -> &mut [u8] {
+        self.output.lent_mut()
+    }
+
+    // A read, with so much of the stores as is lent. It writes no more bytes than it takes.
+    pub(crate) fn read(&mut self, session: Session, piece: &[u8], end: bool, masks: Masks) -> Turn {
+        let turn = reader::read::read(
+            session,
+            piece,
+            end,
+            masks,
+            self.message.lent_mut(),
+            self.control.lent_mut(),
+            self.output.lent_mut(),
+        );
+        self.reaches(turn.taken);
+        turn
+    }
+
+    // So many bytes more may have been written.
+    pub(crate) fn reaches(&mut self, n: usize) {
+        self.reach = self.reach.saturating_add(n);
+    }
+
+    // A byte may have been written anywhere.
+    pub(crate) fn reaches_all(&mut self) {
+        self.reach = 140000;
+    }
+
+    // Lays bytes over the room of a store from a place on, whatever is lent, if they fit.
+    pub(crate) fn lay(&mut self, store: Store, at: usize, bytes: &[u8]) -> Option<()> {
+        self.reaches_all();
+        match store {
+            Store::Message => self.message.lay(at, bytes),
+            Store::Control => self.control.lay(at, bytes),
+            Store::Output => self.output.lay(at, bytes),
+        }
     }
 }

@@ -1,91 +1,51 @@
-// The words that show what there is and change nothing: `held`, `waits`, `state` and `stores`; and what is said of a call that is not
-// made, and of a line that is not understood.
-use crate::state::{Control, Message, Output, State, Text};
-use crate::told::Said;
-use crate::{ask, told};
+// The words that show what there is and change nothing: `held`, `waits`, `state` and `stores`.
+use crate::room::Stores;
+use crate::told;
+use crate::told::Text;
+use session::Session;
 
-fn held(state: State, output: &[u8]) -> Said {
-    let session = state.session;
-    let number = writer::output::held_number(session, output);
-    if number != 0 {
-        return told::of(told::REFUSED, number as u64);
+pub(crate) fn held(session: Session, output: &[u8], text: &mut Text<'_>) {
+    match writer::output::held_number(session, output) {
+        0 => {
+            let bytes = writer::output::held(session, output);
+            told::counted(text, b"held", bytes.len() as u64);
+            text.hex(bytes);
+        }
+        number => told::refused(text, number),
     }
-    let bytes = writer::output::held(session, output);
-    told::of(told::HELD, bytes.len() as u64)
+    text.put(b"\n");
 }
 
-fn waits(state: State) -> Said {
-    let session = state.session;
+pub(crate) fn waits(session: Session, text: &mut Text<'_>) {
     if writer::output::waits(session) {
-        return told::of(told::WAITS, 1);
+        text.put(b"waits 1\n");
+    } else {
+        text.put(b"waits 0\n");
     }
-    told::of(told::WAITS, 0)
 }
 
 // The state by its name, or by its number where it has none.
-fn named(state: State, out: &mut Text) -> usize {
-    let session = state.session;
-    let name = script::words::word(
-        b"Active ClosedByUs ClosedByPeer CloseAcknowledged Terminated",
-        session.state as usize,
-    );
-    if name.len() == 0 {
-        return told::say(out, state.at, told::of(told::STATE, session.state as u64));
+pub(crate) fn state(session: Session, text: &mut Text<'_>) {
+    match session.state {
+        session::ACTIVE => text.put(b"state Active"),
+        session::CLOSED_BY_US => text.put(b"state ClosedByUs"),
+        session::CLOSED_BY_PEER => text.put(b"state ClosedByPeer"),
+        session::CLOSE_ACKNOWLEDGED => text.put(b"state CloseAcknowledged"),
+        session::TERMINATED => text.put(b"state Terminated"),
+        number => told::counted(text, b"state", number as u64),
     }
-    let begun = script::answers::put(out, state.at, b"state ");
-    script::answers::put(out, begun, name)
+    text.put(b"\n");
 }
 
 // A line of a store's name, the number of the bytes that are lent, and their digits.
-fn store(out: &mut Text, at: usize, name: usize, all: &[u8], n: usize) -> usize {
-    let worded = told::say(out, at, told::of(name, n as u64));
-    let shown = script::answers::hex(out, worded, input::front(all, n));
-    told::end(out, shown)
+fn store(name: &[u8], bytes: &[u8], text: &mut Text<'_>) {
+    told::counted(text, name, bytes.len() as u64);
+    text.hex(bytes);
+    text.put(b"\n");
 }
 
-fn bad(state: State, out: &mut Text) -> usize {
-    let named = script::answers::put(out, state.at, b"bad line");
-    script::answers::number(out, named, state.line)
-}
-
-fn said(state: State, output: &[u8], out: &mut Text) -> usize {
-    let word = state.word;
-    match word {
-        ask::HELD => {
-            let session = state.session;
-            let said = held(state, output);
-            let worded = told::say(out, state.at, said);
-            script::answers::hex(out, worded, writer::output::held(session, output))
-        }
-        ask::WAITS => told::say(out, state.at, waits(state)),
-        ask::STATE => named(state, out),
-        ask::NOT_MADE => told::say(out, state.at, told::of(told::NOTHING, 0)),
-        _ => bad(state, out),
-    }
-}
-
-// `held`, `waits`, `state`, `-` and `bad line N`
-pub(crate) fn shows(state: State, output: &Output, out: &mut Text) -> State {
-    let said = said(state, input::front(output, state.output), out);
-    let mut next = state;
-    next.at = told::end(out, said);
-    if state.word == ask::BAD {
-        next.word = ask::END;
-    }
-    next
-}
-
-// `stores`
-pub(crate) fn stores(
-    state: State,
-    message: &Message,
-    control: &Control,
-    output: &Output,
-    out: &mut Text,
-) -> State {
-    let first = store(out, state.at, told::MESSAGE, message, state.message);
-    let second = store(out, first, told::CONTROL, control, state.control);
-    let mut next = state;
-    next.at = store(out, second, told::OUTPUT, output, state.output);
-    next
+pub(crate) fn stores(stores: &Stores, text: &mut Text<'_>) {
+    store(b"message", stores.message(), text);
+    store(b"control", stores.control(), text);
+    store(b"output", stores.output(), text);
 }

@@ -1,91 +1,95 @@
-// What a script has made so far.
-use crate::ask::Args;
-use input::Window;
-use session::{Masks, Role, Session};
+// What a script has made so far, and what a line does.
+use crate::calls::Live;
+use crate::held::Held;
+use crate::line::{Asked, Line, Order};
+use crate::room::Stores;
+use crate::told::Text;
+use crate::{shows, told};
 
-// The window's bytes: the longest line, its line feed, and room to read behind them.
-pub(crate) type Bytes = [u8; 327680];
-
-// What the last read left over, and behind it the bytes that a line gives: 150,000 at most of each.
-pub(crate) type Held = [u8; 300000];
-
-// The room of the three stores.
-pub(crate) type Message = [u8; 70000];
-
-pub(crate) type Control = [u8; 256];
-
-pub(crate) type Output = [u8; 140000];
-
-// The answers that are not written yet.
-pub(crate) type Text = [u8; 524288];
-
-#[derive(Clone, Copy)]
+#[derive(Drop)]
 pub(crate) struct State {
-    pub(crate) session: Session,
-    // of the next call that takes masks
-    pub(crate) masks: Masks,
-    // the window on the script, and the bytes of it that are used at the next turn
-    pub(crate) window: Window,
-    pub(crate) used: usize,
-    // the number of the line under way, its length, what it is about, and its arguments
-    pub(crate) line: u64,
-    pub(crate) length: usize,
-    pub(crate) word: usize,
-    pub(crate) args: Args,
-    // how many bytes of each store are lent
-    pub(crate) message: usize,
-    pub(crate) control: usize,
-    pub(crate) output: usize,
-    // no byte of the message and output stores behind this place was written since they were zeros
-    pub(crate) reach: usize,
-    // what the last read left over: the held bytes from one place to another. The bytes that a line gives stand behind them
-    pub(crate) from: usize,
-    pub(crate) to: usize,
-    // the place behind the answers that are not written yet
-    pub(crate) at: usize,
-    // there is a session
-    pub(crate) there: bool,
-    // a call of the session was refused
-    pub(crate) refused: bool,
+    live: Option<Live>,
     // calls behind a refusal are to answer `-`
-    pub(crate) until: bool,
-    // output stays where it is
-    pub(crate) keep: bool,
+    until: bool,
+    held: Held,
+    stores: Stores,
 }
 
-pub(crate) fn no_masks() -> Masks {
-    Masks {
-        first: [0, 0, 0, 0],
-        second: [0, 0, 0, 0],
+impl State {
+    // Before the first line.
+    pub(crate) fn new() -> State {
+        State {
+            live: None,
+            until: false,
+            held: Held::new(),
+            stores: Stores::new(),
+        }
     }
-}
 
-// Before the first line. The session stands for none.
-pub(crate) fn none() -> State {
-    let made = session::new::new(Role::Server, 0, 0, false);
-    let session = made.session;
-    let masks = no_masks();
-    let window = input::none();
-    let args = crate::ask::none();
-    State {
-        session,
-        masks,
-        window,
-        used: 0,
-        line: 0,
-        length: 0,
-        word: crate::ask::PASSED,
-        args,
-        message: 0,
-        control: 0,
-        output: 0,
-        reach: 0,
-        from: 0,
-        to: 0,
-        at: 0,
-        there: false,
-        refused: false,
-        until: false,
-        keep: false,
+    // Another read of `all`, or false where none is under way.
+    pub(crate) fn reads_again(&mut self, text: &mut Text<'_>) -> bool {
+        match &mut self.live {
+            Some(live) => live.reads_again(&mut self.held, &mut self.stores, text),
+            None => false,
+        }
+    }
+
+    // Does what a line asks for; nothing where it is not understood.
+    pub(crate) fn line(&mut self, line: &[u8], text: &mut Text<'_>) -> Option<()> {
+        match Line::of(line, self.held.room())? {
+            Line::Passed => Some(()),
+            Line::Session(asked) => {
+                self.session(asked, line, text);
+                Some(())
+            }
+            Line::UntilRefused => {
+                self.until = true;
+                Some(())
+            }
+            Line::Order(order) => self.order(order, text),
+        }
+    }
+
+    // A new session, told by the line itself, or the number by which there is none. All is as at the start but for `until refused`, which
+    // stays.
+    fn session(&mut self, asked: Asked, line: &[u8], text: &mut Text<'_>) {
+        self.held.clear();
+        self.stores.clear();
+        self.stores.lend_at_first(asked.message);
+        let made = session::new::new(asked.role, asked.frame, asked.message, asked.unmasked);
+        match told::refusal(made.sent) {
+            None => {
+                self.live = Some(Live::new(made.session));
+                text.put(line);
+            }
+            Some(number) => {
+                self.live = None;
+                told::refused(text, number);
+            }
+        }
+        text.put(b"\n");
+    }
+
+    // What is asked of the session, where there is one.
+    fn order(&mut self, order: Order, text: &mut Text<'_>) -> Option<()> {
+        let live = self.live.as_mut()?;
+        match order {
+            Order::Call(_) if self.until && live.refused => text.put(b"-\n"),
+            Order::Call(call) => live.call(call, &mut self.held, &mut self.stores, text)?,
+            Order::Lend(message, control, output) => self.stores.lend(message, control, output)?,
+            Order::Lay(store, at, n) => self.stores.lay(store, at, self.held.given(n))?,
+            Order::Masks(masks) => live.masks = masks,
+            Order::Keep(kept) => live.keep = kept,
+            Order::Set(field) => {
+                field.set(&mut live.session);
+                // a session that was altered by hand can have a byte written anywhere
+                self.stores.reaches_all();
+            }
+            Order::Held => shows::held(live.session, self.stores.output(), text),
+            Order::Waits => shows::waits(live.session, text),
+            Order::State => shows::state(live.session, text),
+            Order::Stores => shows::stores(&self.stores, text),
+        }
+        Some(())
     }
 }

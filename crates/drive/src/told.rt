@@ -1,86 +1,63 @@
 // The answers as text.
-use crate::state::Text;
 use session::{Answer, Sent};
 
-// The words of answers, by their places in `say`. The first four have no number.
-pub(crate) const NOTHING: usize = 0;
-
-pub(crate) const OK: usize = 1;
-
-pub(crate) const MORE: usize = 2;
-
-pub(crate) const CLOSED: usize = 3;
-
-pub(crate) const REFUSED: usize = 4;
-
-pub(crate) const TEXT: usize = 5;
-
-pub(crate) const BINARY: usize = 6;
-
-pub(crate) const PING: usize = 7;
-
-pub(crate) const PONG: usize = 8;
-
-pub(crate) const CLOSE: usize = 9;
-
-pub(crate) const HELD: usize = 10;
-
-pub(crate) const WAITS: usize = 11;
-
-pub(crate) const STATE: usize = 12;
-
-pub(crate) const MESSAGE: usize = 13;
-
-pub(crate) const CONTROL: usize = 14;
-
-pub(crate) const OUTPUT: usize = 15;
-
-// A word and the number behind it.
-#[derive(Clone, Copy)]
-pub(crate) struct Said {
-    pub(crate) word: usize,
-    pub(crate) number: u64,
+// The answers that are not written yet, and the place behind them.
+#[derive(Drop)]
+pub(crate) struct Text<'a> {
+    pub(crate) store: &'a mut [u8],
+    pub(crate) at: usize,
 }
 
-pub(crate) fn of(word: usize, number: u64) -> Said {
-    Said { word, number }
+impl Text<'_> {
+    pub(crate) fn put(&mut self, word: &[u8]) {
+        self.at = script::answers::put(self.store, self.at, word);
+    }
+
+    pub(crate) fn number(&mut self, n: u64) {
+        self.at = script::answers::number(self.store, self.at, n);
+    }
+
+    pub(crate) fn hex(&mut self, bytes: &[u8]) {
+        self.at = script::answers::hex(self.store, self.at, bytes);
+    }
+}
+
+// A word and the number behind it.
+pub(crate) fn counted(text: &mut Text<'_>, word: &[u8], n: u64) {
+    text.put(word);
+    text.number(n);
+}
+
+pub(crate) fn refused(text: &mut Text<'_>, number: u8) {
+    counted(text, b"refused", number as u64);
 }
 
 // What a read answers.
-pub(crate) fn answer(answer: Answer) -> Said {
+pub(crate) fn answer(text: &mut Text<'_>, answer: Answer) {
     match answer {
-        Answer::More => of(MORE, 0),
-        Answer::Text(n) => of(TEXT, n as u64),
-        Answer::Binary(n) => of(BINARY, n as u64),
-        Answer::Ping(n) => of(PING, n as u64),
-        Answer::Pong(n) => of(PONG, n as u64),
-        Answer::Close(n) => of(CLOSE, n as u64),
-        Answer::Closed => of(CLOSED, 0),
-        Answer::Refused(number) => of(REFUSED, number as u64),
+        Answer::More => text.put(b"more"),
+        Answer::Text(n) => counted(text, b"text", n as u64),
+        Answer::Binary(n) => counted(text, b"binary", n as u64),
+        Answer::Ping(n) => counted(text, b"ping", n as u64),
+        Answer::Pong(n) => counted(text, b"pong", n as u64),
+        Answer::Close(n) => counted(text, b"close", n as u64),
+        Answer::Closed => text.put(b"closed"),
+        Answer::Refused(number) => refused(text, number),
+    }
+}
+
+// The number that a call was refused with.
+pub(crate) fn refusal(sent: Sent) -> Option<u8> {
+    match sent {
+        Sent::Done => None,
+        Sent::Refused(number) => Some(number),
     }
 }
 
 // What a sending call or a take answers.
-pub(crate) fn sent(sent: Sent) -> Said {
-    match sent {
-        Sent::Done => of(OK, 0),
-        Sent::Refused(number) => of(REFUSED, number as u64),
+pub(crate) fn sent(text: &mut Text<'_>, sent: Sent) {
+    match refusal(sent) {
+        None => text.put(b"ok"),
+        Some(number) => refused(text, number),
     }
-}
-
-pub(crate) fn say(out: &mut Text, at: usize, said: Said) -> usize {
-    let word = script::words::word(
-        b"- ok more closed refused text binary ping pong close held waits state message control output",
-        said.word,
-    );
-    let named = script::answers::put(out, at, word);
-    if said.word < REFUSED {
-        return named;
-    }
-    script::answers::number(out, named, said.number)
-}
-
-// A line's end.
-pub(crate) fn end(out: &mut Text, at: usize) -> usize {
-    script::answers::put(out, at, b"\n")
 }
