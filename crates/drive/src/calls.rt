@@ -2,8 +2,7 @@
 use crate::held::Held;
 use crate::line::{Call, Sending};
 use crate::room::Stores;
-use crate::told;
-use crate::told::Text;
+use crate::told::{self, Text};
 use session::{Answer, Closing, Handed, Masks, Session, Turn};
 
 #[derive(Clone, Copy)]
@@ -54,7 +53,7 @@ impl Live {
     // Behind a call: the session that it left; and a refusal counts. What it put out ends where the held bytes do.
     fn called(&mut self, session: Session, refused: bool, stores: &mut Stores) {
         self.session = session;
-        self.refused = self.refused || refused;
+        self.refused |= refused;
         stores.reaches(session.held);
     }
 
@@ -158,19 +157,19 @@ impl Live {
         text: &mut Text<'_>,
     ) -> Option<()> {
         match call {
-            Call::Read(n, end) => {
-                held.join(n)?;
+            Call::Read { given, end } => {
+                held.join(given)?;
                 self.read_on(end, held, stores, text);
             }
-            Call::Call(n, end) => {
-                self.read(held.given(n), end, stores, text);
+            Call::Call { given, end } => {
+                self.read(held.given(given), end, stores, text);
                 held.clear();
             }
-            Call::All(n, end) => {
-                held.join(n)?;
+            Call::All { given, end } => {
+                held.join(given)?;
                 self.read_all(end, held, stores, text);
             }
-            Call::Send(sending, n) => self.send(sending, held.given(n), stores, text),
+            Call::Send(sending, given) => self.send(sending, held.given(given), stores, text),
             Call::Take(n) => self.take(n, stores, text),
         }
         Some(())

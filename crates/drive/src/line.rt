@@ -1,9 +1,11 @@
-// A line understood: what it asks for, with its arguments. A line is tested whole here, before anything is done.
+// A line understood: what it asks for, with its arguments. All of it is tested here but for what hangs on what there is: whether there is a
+// session, and whether the bytes given have room.
 use crate::fields::Field;
 use crate::room::Store;
 use session::{Masks, Role};
+use std::array;
 
-// Of HEX that is long, a line has how many bytes it stands for: these are then at the front of the room for them.
+// Where HEX may be long, a line has how many bytes are given, which then are at the front of the room for them.
 #[derive(Clone, Copy)]
 pub(crate) enum Line {
     // begins with #
@@ -17,10 +19,16 @@ pub(crate) enum Line {
 #[derive(Clone, Copy)]
 pub(crate) enum Order {
     Call(Call),
-    // so many bytes of the message, control and output stores
-    Lend(usize, usize, usize),
-    // the bytes given are laid over a store from a place on
-    Lay(Store, usize, usize),
+    Lend {
+        message: usize,
+        control: usize,
+        output: usize,
+    },
+    Lay {
+        store: Store,
+        at: usize,
+        given: usize,
+    },
     Masks(Masks),
     Keep(bool),
     Set(Field),
@@ -42,10 +50,9 @@ pub(crate) struct Asked {
 // The calls, which `until refused` speaks of.
 #[derive(Clone, Copy)]
 pub(crate) enum Call {
-    // the bytes given, and the end flag
-    Read(usize, bool),
-    Call(usize, bool),
-    All(usize, bool),
+    Read { given: usize, end: bool },
+    Call { given: usize, end: bool },
+    All { given: usize, end: bool },
     Send(Sending, usize),
     Take(usize),
 }
@@ -78,11 +85,7 @@ fn hex(word: &[u8], room: &mut [u8]) -> Option<usize> {
 // The bytes of HEX that has so many.
 pub(crate) fn bytes<const N: usize>(word: &[u8]) -> Option<[u8; N]> {
     let mut bytes = [0; N];
-    if hex(word, &mut bytes)? == N {
-        Some(bytes)
-    } else {
-        None
-    }
+    (hex(word, &mut bytes)? == N).then_some(bytes)
 }
 
 pub(crate) fn flag(word: &[u8]) -> Option<bool> {
@@ -131,9 +134,18 @@ fn closing(word: &[u8], room: &mut [u8]) -> Option<Call> {
 impl Call {
     fn of(words: &[&[u8]], room: &mut [u8]) -> Option<Call> {
         match words {
-            [b"read", word, end] => Some(Call::Read(hex(word, room)?, flag(end)?)),
-            [b"call", word, end] => Some(Call::Call(hex(word, room)?, flag(end)?)),
-            [b"all", word, end] => Some(Call::All(hex(word, room)?, flag(end)?)),
+            [b"read", word, end] => Some(Call::Read {
+                given: hex(word, room)?,
+                end: flag(end)?,
+            }),
+            [b"call", word, end] => Some(Call::Call {
+                given: hex(word, room)?,
+                end: flag(end)?,
+            }),
+            [b"all", word, end] => Some(Call::All {
+                given: hex(word, room)?,
+                end: flag(end)?,
+            }),
             [b"text", word] => Some(Call::Send(Sending::Text, hex(word, room)?)),
             [b"binary", word] => Some(Call::Send(Sending::Binary, hex(word, room)?)),
             [b"ping", word] => Some(Call::Send(Sending::Ping, hex(word, room)?)),
@@ -149,16 +161,16 @@ impl Order {
     // The bytes of HEX are laid over the front of the room.
     fn of(words: &[&[u8]], room: &mut [u8]) -> Option<Order> {
         match words {
-            [b"lend", message, control, output] => Some(Order::Lend(
-                number(message)?,
-                number(control)?,
-                number(output)?,
-            )),
-            [b"lay", store, at, word] => Some(Order::Lay(
-                Store::named(store)?,
-                number(at)?,
-                hex(word, room)?,
-            )),
+            [b"lend", message, control, output] => Some(Order::Lend {
+                message: number(message)?,
+                control: number(control)?,
+                output: number(output)?,
+            }),
+            [b"lay", store, at, word] => Some(Order::Lay {
+                store: Store::named(store)?,
+                at: number(at)?,
+                given: hex(word, room)?,
+            }),
             [b"masks", word] => Some(Order::Masks(masks(word)?)),
             [b"keep", kept] => Some(Order::Keep(flag(kept)?)),
             [b"set", field, value] => Some(Order::Set(Field::of(field, value)?)),
@@ -187,13 +199,7 @@ impl Line {
         if script::words::byte(line, 0) == b'#' {
             return Some(Line::Passed);
         }
-        let words: [&[u8]; 5] = [
-            script::words::word(line, 0),
-            script::words::word(line, 1),
-            script::words::word(line, 2),
-            script::words::word(line, 3),
-            script::words::word(line, 4),
-        ];
+        let words: [&[u8]; 5] = array::from_fn(|k| script::words::word(line, k));
         understood(words.get(..script::words::count(line))?, room)
     }
 }

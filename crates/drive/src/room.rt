@@ -48,6 +48,11 @@ impl<const N: usize> Room<N> {
         self.bytes[..reach.min(N)].fill(0);
     }
 
+    // Lends so many bytes, or all if it has fewer.
+    fn lend_most(&mut self, n: usize) {
+        self.lent = Lent { n: n.min(N) };
+    }
+
     // Lends so many bytes, if it has as many.
     fn lend(&mut self, n: usize) -> Option<()> {
         if N < n {
@@ -95,12 +100,15 @@ impl Stores {
         }
     }
 
-    // All zeros.
-    pub(crate) fn clear(&mut self) {
+    // All zeros, and lent as at the start of a session with this message limit.
+    pub(crate) fn begin(&mut self, limit: usize) {
         self.message.clear(self.reach);
         self.control.clear(256);
         self.output.clear(self.reach);
         self.reach = 0;
+        self.message.lend_most(limit);
+        self.control.lend_most(125);
+        self.output.lend_most(140000);
     }
 
     // So many bytes of each are lent, where it has as many.
@@ -108,11 +116,6 @@ impl Stores {
         self.message.lend(message)?;
         self.control.lend(control)?;
         self.output.lend(output)
-    }
-
-    // As at the start of a session with this message limit.
-    pub(crate) fn lend_at_first(&mut self, limit: usize) {
-        let _ = self.lend(limit.min(70000), 125, 140000);
     }
 
     pub(crate) fn message(&self) -> &[u8] {
@@ -153,7 +156,7 @@ impl Stores {
 
     // A byte may have been written anywhere.
     pub(crate) fn reaches_all(&mut self) {
-        self.reach = 140000;
+        self.reach = usize::MAX;
     }
 
     // Lays bytes over the room of a store from a place on, whatever is lent, if they fit.

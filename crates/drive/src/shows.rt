@@ -1,7 +1,6 @@
 // The words that show what there is and change nothing: `held`, `waits`, `state` and `stores`.
 use crate::room::Stores;
-use crate::told;
-use crate::told::Text;
+use crate::told::{self, Text};
 use session::Session;
 
 pub(crate) fn held(session: Session, output: &[u8], text: &mut Text<'_>) {
@@ -32,7 +31,7 @@ pub(crate) fn state(session: Session, text: &mut Text<'_>) {
         session::CLOSED_BY_PEER => text.put(b"state ClosedByPeer"),
         session::CLOSE_ACKNOWLEDGED => text.put(b"state CloseAcknowledged"),
         session::TERMINATED => text.put(b"state Terminated"),
-        number => told::counted(text, b"state", number as u64),
+        number => told::counted(text, b"state", u64::from(number)),
     }
     text.put(b"\n");
 }

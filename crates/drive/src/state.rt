@@ -3,8 +3,8 @@ use crate::calls::Live;
 use crate::held::Held;
 use crate::line::{Asked, Line, Order};
 use crate::room::Stores;
-use crate::told::Text;
-use crate::{shows, told};
+use crate::shows;
+use crate::told::{self, Text};
 
 #[derive(Drop)]
 pub(crate) struct State {
@@ -54,8 +54,7 @@ impl State {
     // stays.
     fn session(&mut self, asked: Asked, line: &[u8], text: &mut Text<'_>) {
         self.held.clear();
-        self.stores.clear();
-        self.stores.lend_at_first(asked.message);
+        self.stores.begin(asked.message);
         let made = session::new::new(asked.role, asked.frame, asked.message, asked.unmasked);
         match told::refusal(made.sent) {
             None => {
@@ -76,8 +75,12 @@ impl State {
         match order {
             Order::Call(_) if self.until && live.refused => text.put(b"-\n"),
             Order::Call(call) => live.call(call, &mut self.held, &mut self.stores, text)?,
-            Order::Lend(message, control, output) => self.stores.lend(message, control, output)?,
-            Order::Lay(store, at, n) => self.stores.lay(store, at, self.held.given(n))?,
+            Order::Lend {
+                message,
+                control,
+                output,
+            } => self.stores.lend(message, control, output)?,
+            Order::Lay { store, at, given } => self.stores.lay(store, at, self.held.given(given))?,
             Order::Masks(masks) => live.masks = masks,
             Order::Keep(kept) => live.keep = kept,
             Order::Set(field) => {

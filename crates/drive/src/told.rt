@@ -29,7 +29,7 @@ pub(crate) fn counted(text: &mut Text<'_>, word: &[u8], n: u64) {
 }
 
 pub(crate) fn refused(text: &mut Text<'_>, number: u8) {
-    counted(text, b"refused", number as u64);
+    counted(text, b"refused", u64::from(number));
 }
 
 // What a read answers.
