@@ -1,32 +1,40 @@
 -- Laws of masking by blocks of eight bytes.
 use mathlib.Core.Path.{◌≡◌, refl, sym, ap, ap₂, ◌∙◌}
-use mathlib.Core.List.{List, [], ◌∷◌, ◌++◌}
-use Prim.Native.Nat.{ℕ, zero, suc, ◌+◌, ◌-◌, ◌%◌, ◌<◌, ◌≤◌}
+use mathlib.Core.List.{List, [], ◌∷◌, ◌++◌, append_assoc}
+use Prim.Native.Nat.{ℕ, zero, suc, ◌+◌, ◌-◌, ◌*◌, ◌/◌, ◌%◌, ◌<◌, ◌≤◌}
 use native.Mathlib.Nat.{add-zero, zero-add, add-suc}
-use native.Mathlib.Numerals.{add-one}
 use native.Mathlib.Omega.{arith}
 use lib.Bits.{bit_xor}
-use lib.ListN.{length, get_or, set, take, drop}
-use lib.Seq.{take-add, take_all, take-suc-set, length-take-le, ext_get_or}
+use lib.ListN.{length, get_or, take, drop, length-drop}
+use lib.Seq.{take-add, take_all, length-take-le, ext_get_or, drop-drop}
+use borrow.Rule.Slice.PartMut.{put_mid}
+use Rattle.std.specs.Simd.{first_chunks}
 use Rattle.base.specs.Bytes.{part}
 use Rattle.base.specs.Stores.{laid}
-use Rattle.base.proofs.Bytes.{length_part, part-more}
-use Rattle.base.proofs.Stores.{laid-append}
+use Rattle.base.proofs.Bytes.{length_part}
+use Rattle.base.proofs.Stores.{laid-append, laid-split}
 use Rattle.mask.specs.Blocks.{key_at, xored, in_blocks}
 use Rattle.mask.specs.Mask.{masked}
 use Rattle.mask.proofs.Laws.{length-masked, masked-at, masked-append}
 
--- ---- a block is read
+-- ---- a block is read, and a run is written
 
--- a byte more of a run that is copied into an array
-pub built_more : (s b : List ℕ) (from i : ℕ) → i < length b → from + i < length s → take i b ≡ part from i s
-    → take (i + 1) (set b i (get_or s (from + i) 0)) ≡ part from (i + 1) s
-built_more s b from i h k p =
-    rw (add-one, take-suc-set b i (get_or s (from + i) 0) h, p) (sym (part-more from i s k) ∙ rw add-one)
+chunk_at : (n i : ℕ) (s : List ℕ) → i < n → get_or (first_chunks 8 n s) i [] ≡ part (8 * i) 8 s
+unfolding part
+chunk_at zero i s h = absurd (omega arith)
+chunk_at (suc n) zero s h = refl
+chunk_at (suc n) (suc i) s h =
+    let e : 8 * suc i ≡ 8 + 8 * i = omega arith in
+    chunk_at n i (drop 8 s) (omega arith) ∙ rw (e, drop-drop (8 * i) 8 s)
 
--- and all of it
-pub built_all : (s b : List ℕ) (from i n : ℕ) → length b ≡ n → i ≡ n → take i b ≡ part from i s → b ≡ part from n s
-built_all s b from i n h k p = sym (take_all n b (omega arith)) ∙ rw k at p
+-- block i of a slice's blocks
+pub block_at : (s : List ℕ) (n i : ℕ) {blocks : List (List ℕ)} → blocks ≡ first_chunks 8 n s → i < n → get_or blocks i [] ≡ part (8 * i) 8 s
+block_at s n i e h = rw e (chunk_at n i s h)
+
+-- what is written to a part of a store is laid over it
+pub laid-over : (d : List ℕ) (at n : ℕ) (s : List ℕ) {written : List ℕ} → written ≡ s → n ≡ length s → at + n ≤ length d
+    → put_mid at n d written ≡ laid d at s
+laid-over d at n s w e h = rw (w, laid-split d at s (omega arith), append_assoc, ← e, drop-drop n at d)
 
 -- ---- the phase
 
@@ -108,3 +116,14 @@ laid-rest d mask s at p i {x} {y} e q r =
     let all : i + (length s - i) ≡ length s = omega arith in
     let whole : take i s ++ rest ≡ s = sym (take-add i (length s - i) s) ∙ rw all (take_all (length s) s (omega arith)) in
     r ∙ rw q (masked-behind d mask s rest at p p i (omega arith) (omega arith)) ∙ ap (λ (l : List ℕ). laid d at (masked mask p l)) whole
+
+-- the same of blocks and rest as a slice is cut into them, with the key
+pub laid-whole : (d mask s : List ℕ) (at p : ℕ) {k rest x y : List ℕ} {n : ℕ} → k ≡ key_at mask p → n ≡ length s / 8 → rest ≡ drop (length s / 8 * 8) s
+    → x ≡ laid d at (masked k 0 (take (8 * n) s)) → y ≡ laid x (at + 8 * n) (masked k 0 rest) → y ≡ laid d at (masked mask p s)
+laid-whole d mask s at p {k} {rest} {x} {y} {n} e f g q r =
+    let i : ℕ = 8 * n in
+    let all : drop i s ≡ take (length s - i) (drop i s) = sym (take_all (length s - i) (drop i s) (simp length-drop (omega arith))) in
+    let same : length s / 8 * 8 ≡ i = omega arith in
+    let turned : masked k 0 rest ≡ masked mask p (take (length s - i) (drop i s)) =
+    rw (e, g, same, masked-key mask p 0 (drop i s), add-zero, ← all) in
+    laid-rest d mask s at p i (omega arith) (laid-blocks d mask (take i s) at p e q) (r ∙ rw turned)

@@ -1,4 +1,3 @@
-pub mod Xor
 pub mod Laws
 pub mod BlockLaws
 pub mod OneAnswer

@@ -14,20 +14,23 @@ pub fn apply_mask(piece: &[u8], store: &mut [u8], at: usize, mask: [u8; 4], posi
     requires { at + length piece.now ≤ length store.old }
     ensures { store.new ≡ laid store.old at (masked mask position piece.now) }
 {
-    let done = blocks::lay_blocks(piece, store, at, mask, position);
-    lay_bytes(&piece[done..], store, at + done, mask, position);
+    let key = blocks::key_at(mask, position);
+    let (blocks, rest) = piece.as_chunks();
+    for (i, block) in blocks.iter().enumerate() {
+        // The compiler can't know that piece and store are apart. It makes vector code of this since all of a block is read before any of it is
+        // written.
+        let place = at + 8 * i;
+        store[place..place + 8].copy_from_slice(&blocks::xor(*block, key));
+    }
+    lay_bytes(rest, store, at + 8 * blocks.len(), key);
 }
 
-// Byte by byte. The phase is carried on by adding, so that no position is divided for each byte.
-fn lay_bytes(piece: &[u8], store: &mut [u8], at: usize, mask: [u8; 4], position: usize)
+// Byte by byte, with a key whose second half is its first.
+fn lay_bytes(piece: &[u8], store: &mut [u8], at: usize, key: [u8; 8])
     requires { at + length piece.now ≤ length store.old }
-    ensures { store.new ≡ laid store.old at (masked mask position piece.now) }
+    ensures { store.new ≡ laid store.old at (masked key 0 piece.now) }
 {
-    let mut phase = position % 4;
-    let mut i = 0;
-    while i < piece.len() {
-        store[at + i] = piece[i] ^ mask[phase];
-        phase = (phase + 1) % 4;
-        i += 1;
+    for (i, byte) in piece.iter().enumerate() {
+        store[at + i] = byte ^ key[i % 4];
     }
 }

@@ -1,29 +1,23 @@
 -- `mask::apply_mask` meets its contract: the blocks, and behind them the bytes that are left.
-use native.Mathlib.Omega.{arith}
-use Rattle.mask.proofs.BlockLaws.{laid-rest}
+use Rattle.std.proofs.Common.{◌≡◌, ◌+◌, ◌*◌, length, arith}
+use Rattle.base.proofs.Stores.{laid_none}
+use Rattle.mask.specs.Mask.{masked}
+use Rattle.mask.proofs.BlockLaws.{block_at, laid-over, laid-block, laid-whole}
 use Rattle.mask.proofs.apply_mask.Goals as goal
 
-pub lay_blocks-done-requires : goal.lay_blocks-done-requires
-lay_blocks-done-requires c = omega arith
+pub loop-i-init : goal.loop-i-init
+unfolding masked
+loop-i-init c = laid_none _ _
 
-pub slice_bounds-lay_bytes-count : goal.slice_bounds-lay_bytes-count
-slice_bounds-lay_bytes-count c = omega arith
-
-pub slice_bounds-lay_bytes-start : goal.slice_bounds-lay_bytes-start
-slice_bounds-lay_bytes-start c = omega arith
-
-pub slice_bounds-lay_bytes-end : goal.slice_bounds-lay_bytes-end
-slice_bounds-lay_bytes-end c = omega arith
-
-pub overflow_add-at : goal.overflow_add-at
-overflow_add-at c = omega arith
-
-pub lay_bytes-requires : goal.lay_bytes-requires
-lay_bytes-requires c = omega arith
-
-pub shape_of-store : goal.shape_of-store
-shape_of-store c = omega arith
+pub loop-i-preserved : goal.loop-i-preserved
+loop-i-preserved c =
+    let more : 8 * (c.loop-i.i + 1) ≡ 8 * c.loop-i.i + 8 = omega arith in
+    rw more
+    (laid-block _ c.args.mask c.args.piece.now _ c.args.position (8 * c.loop-i.i) c.key_at-key.ensures (omega arith) (omega arith)
+    c.loop-i.invariant (block_at _ _ _ c.as_chunks.ensures.front (omega arith)) c.xor.ensures
+    (laid-over _ _ _ _ c.copy_from_slice.ensures.after (omega arith) (omega arith)))
 
 pub returns : goal.returns
 returns c =
-    laid-rest _ _ _ _ _ _ c.lay_blocks-done.ensures.0 c.lay_blocks-done.ensures.1 c.lay_bytes.ensures
+    let all : c.loop-i.i ≡ length c.as_chunks.result.0.now = omega arith in
+    laid-whole _ _ _ _ _ c.key_at-key.ensures c.as_chunks.ensures.front_len c.as_chunks.ensures.back (rw (← all) c.loop-i.invariant) c.lay_bytes.ensures
