@@ -32,9 +32,9 @@ pub block_at : (s : List ℕ) (n i : ℕ) {blocks : List (List ℕ)} → blocks 
 block_at s n i e h = rw e (chunk_at n i s h)
 
 -- what is written to a part of a store is laid over it
-pub laid-over : (d : List ℕ) (at n : ℕ) (s : List ℕ) {written : List ℕ} → written ≡ s → n ≡ length s → at + n ≤ length d
+pub laid_over : (d : List ℕ) (at n : ℕ) (s : List ℕ) {written : List ℕ} → written ≡ s → n ≡ length s → at + n ≤ length d
     → put_mid at n d written ≡ laid d at s
-laid-over d at n s w e h = rw (w, laid-split d at s (omega arith), append_assoc, ← e, drop-drop n at d)
+laid_over d at n s w e h = rw (w, laid-split d at s (omega arith), append_assoc, ← e, drop-drop n at d)
 
 -- ---- the phase
 

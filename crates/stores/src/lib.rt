@@ -1,5 +1,5 @@
 // Runs of bytes in lent stores, carried over from what the Rust's protocol/frame/mod.rs does with its buffers.
-#![tactic(auto)]
+#![tactic(auto, using(mask::proofs::BlockLaws::laid_over, crate::proofs::Moves::moved_to_front))]
 
 ghost use Rattle.std.specs.Prelude.{◌≡◌, ◌+◌, ◌-◌, ◌≤◌, length};
 ghost use Rattle.base.specs.Bytes.{part};
@@ -12,11 +12,7 @@ pub fn copy(piece: &[u8], store: &mut [u8], at: usize)
     requires { at + length piece.now ≤ length store.old }
     ensures { store.new ≡ laid store.old at piece.now }
 {
-    let mut i = 0;
-    while i < piece.len() {
-        store[at + i] = piece[i];
-        i += 1;
-    }
+    store[at..at + piece.len()].copy_from_slice(piece);
 }
 
 // Lays a piece of a payload, from its byte `position` on, over the store from place `at` on: masked or unmasked where the frame is masked,
@@ -37,9 +33,5 @@ pub fn to_front(store: &mut [u8], n: usize, held: usize)
     requires { (n ≤ held) × (held ≤ length store.old) }
     ensures { store.new ≡ laid store.old 0 (part n (held - n) store.old) }
 {
-    let mut moved = 0;
-    while moved < held - n {
-        store[moved] = store[n + moved];
-        moved += 1;
-    }
+    store.copy_within(n..held, 0);
 }
