@@ -1,9 +1,12 @@
 // The UTF-8 check: a step on a progress that is carried from byte to byte, and so from piece to piece, and a scan of one piece.
-#![tactic(auto)]
+#![tactic(auto, unfolding(base::specs::Table::value_at, crate::specs::Progress::stepped, crate::specs::Progress::is_whole, crate::specs::Progress::is_beginning))]
 
 ghost use Rattle.std.specs.Prelude.{◌≡◌, [], ◌∷◌};
 ghost use Rattle.base.specs.Table.{◌to◌is◌, value_at};
 ghost use Rattle.utf8.specs.Progress.{lead_rows, stepped, scanned, is_whole, is_beginning};
+
+// Kept: a progress is a number and no enum, since `step`, `is_whole` and `is_beginning` promise something of the numbers that name none too: a
+// caller's session may hold one.
 
 // The progress between two characters, with which a text begins.
 pub const START: u8 = 0;
@@ -32,12 +35,11 @@ fn lead(byte: u8) -> u8
 fn tail(low: u8, high: u8, next: u8, byte: u8) -> u8
     ensures { result ≡ value_at ((low to high is next) ∷ []) 8 byte }
 {
-    if low <= byte {
-        if byte <= high {
-            return next;
-        }
+    if (low..=high).contains(&byte) {
+        next
+    } else {
+        BAD
     }
-    BAD
 }
 
 // The progress behind one byte more. A number that names no progress leads to `BAD`, as `BAD` does.
@@ -70,11 +72,12 @@ pub fn scan(progress: u8, piece: &[u8]) -> Scanned
 {
     let mut reached = progress;
     let mut i = 0;
+    // Kept: docs/01-scope.md has this loop yield the place by `break`.
     let at = loop {
-        if piece.len() <= i {
+        let Some(byte) = piece.get(i) else {
             break i;
-        }
-        reached = step(reached, piece[i]);
+        };
+        reached = step(reached, *byte);
         if reached == BAD {
             break i;
         }

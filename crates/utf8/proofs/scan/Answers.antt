@@ -1,25 +1,24 @@
--- `utf8::scan` meets its contract. The loop keeps `Left`: what it has still to find. The measure is what is left of the piece.
-use native.Mathlib.Omega.{arith}
-use Rattle.utf8.proofs.Loop.{left_begins, left_on, left_ends, left_stops}
+-- `utf8::scan` meets its contract. The loop keeps `Left`: what it has still to find.
+use Rattle.std.proofs.Common.{◌≡◌, ℕ, ◌<◌, List, length, get_or, refl, sym, ap, ◌∙◌}
+use Rattle.std.proofs.lemmas.List.{get_or_read_under}
+use borrow.Author.Tests.{ltb-true, ltb-false}
+use Rattle.utf8.specs.Progress.{stepped}
+use Rattle.utf8.proofs.Loop.{left_on, left_ends, left_stops}
 use Rattle.utf8.proofs.scan.Goals as goal
 
-pub loop-i-init : goal.loop-i-init
-loop-i-init c = left_begins _ _
+-- a step by the byte that `get` gave
+got : (s : List ℕ) (q i n b : ℕ) → i < length s → n ≡ stepped q b → b ≡ get_or s i b → n ≡ stepped q (get_or s i 0)
+got s q i n b h e f = e ∙ ap (stepped q) (get_or_read_under s i (length s) b 0 f h refl)
 
-pub bounds-piece-i : goal.bounds-piece-i
-bounds-piece-i c = omega arith
+pub loop-byte-preserved : goal.loop-byte-preserved
+loop-byte-preserved c =
+    let inside : c.loop-byte.i < length c.args.piece.now = ltb-true _ _ (sym c.in-Some.ensures.lookup.0) in
+    left_on c.loop-byte.invariant inside (got _ _ _ _ _ inside c.step-reached.ensures c.in-Some.ensures.lookup.1) c.if-reached-eq-BAD.false
 
-pub overflow_add-i : goal.overflow_add-i
-overflow_add-i c = omega arith
-
-pub loop-i-smaller : goal.loop-i-smaller
-loop-i-smaller c = omega arith
-
-pub loop-i-preserved : goal.loop-i-preserved
-loop-i-preserved c = left_on c.loop-i.invariant (omega arith) c.step-reached.ensures c.if-reached-eq-BAD.false
-
-pub returns-then-piece-i : goal.returns-then-piece-i
-returns-then-piece-i c = left_ends c.loop-i.invariant (omega arith)
+pub returns-in_default : goal.returns-in_default
+returns-in_default c = left_ends c.loop-byte.invariant (ltb-false _ _ (sym c.in_default.ensures.lookup.0))
 
 pub returns-then-reached-eq-BAD : goal.returns-then-reached-eq-BAD
-returns-then-reached-eq-BAD c = left_stops c.loop-i.invariant (omega arith) c.step-reached.ensures c.if-reached-eq-BAD.true
+returns-then-reached-eq-BAD c =
+    let inside : c.loop-byte.i < length c.args.piece.now = ltb-true _ _ (sym c.in-Some.ensures.lookup.0) in
+    left_stops c.loop-byte.invariant inside (got _ _ _ _ _ inside c.step-reached.ensures c.in-Some.ensures.lookup.1) c.if-reached-eq-BAD.true

@@ -4,8 +4,8 @@ use lib.ListN.{length}
 use Rattle.utf8.proofs.Loop.{Left}
 use Rattle.utf8.proofs.scan.Given as goal
 
-abbrev pub invariant-loop-i : goal.invariant-loop-i
-invariant-loop-i l = Left l.progress l.piece l.reached l.i
+abbrev pub invariant-loop-byte : goal.invariant-loop-byte
+invariant-loop-byte l = Left l.progress l.piece l.reached l.i
 
-abbrev pub decreases-loop-i : goal.decreases-loop-i
-decreases-loop-i l = length l.piece - l.i
+abbrev pub decreases-loop-byte : goal.decreases-loop-byte
+decreases-loop-byte l = length l.piece - l.i
