@@ -2,31 +2,26 @@
 
 // Masks a piece into a store from its front on, where it fits.
 pub fn bench_mask(piece: &[u8], store: &mut [u8], mask: u32) -> bool {
-    if store.len() < piece.len() {
-        return false;
+    let fits = piece.len() <= store.len();
+    if fits {
+        mask::apply_mask(piece, store, 0, mask.to_be_bytes(), 0);
     }
-    mask::apply_mask(piece, store, 0, crate::sends::mask_bytes(mask), 0);
-    true
+    fits
 }
 
 // The same by single bytes, as the bytes go that are left behind the blocks. Nothing but the measure uses it.
 pub fn bench_mask_bytes(piece: &[u8], store: &mut [u8], mask: u32) -> bool {
-    if store.len() < piece.len() {
-        return false;
+    let fits = piece.len() <= store.len();
+    if fits {
+        let key = mask.to_be_bytes();
+        for (i, byte) in piece.iter().enumerate() {
+            store[i] = byte ^ key[i % 4];
+        }
     }
-    let key = crate::sends::mask_bytes(mask);
-    let mut phase = 0;
-    let mut i = 0;
-    while i < piece.len() {
-        store[i] = piece[i] ^ key[phase];
-        phase = (phase + 1) % 4;
-        i += 1;
-    }
-    true
+    fits
 }
 
 // Whether a piece is a whole text.
 pub fn bench_utf8(piece: &[u8]) -> bool {
-    let scanned = utf8::scan(utf8::START, piece);
-    utf8::is_whole(scanned.progress)
+    utf8::is_whole(utf8::scan(utf8::START, piece).progress)
 }

@@ -8,6 +8,5 @@
 
 pub mod leaves;
 pub mod listings;
-mod places;
 pub mod reads;
 pub mod sends;

@@ -1,55 +1,37 @@
 // Whole sessions read.
-use session::{Answer, Masks, Role, Session, Turn};
+use session::{Answer, Role, Session, Turn};
 
 // The events of a session, and the bytes that they showed.
-#[derive(Clone, Copy)]
+#[derive(Clone, Copy, Default)]
 struct Tally {
     events: u64,
     bytes: u64,
 }
 
-pub(crate) fn role_of(client: bool) -> Role {
-    if client {
-        return Role::Client;
+impl Tally {
+    fn count(&mut self, answer: Answer) {
+        match answer {
+            Answer::Text(n)
+            | Answer::Binary(n)
+            | Answer::Ping(n)
+            | Answer::Pong(n)
+            | Answer::Close(n) => {
+                self.events = self.events.wrapping_add(1);
+                self.bytes = self.bytes.wrapping_add(n as u64);
+            }
+            Answer::More | Answer::Closed | Answer::Refused(_) => {}
+        }
     }
-    Role::Server
 }
 
 // A session with the largest frame limit, and a message limit that fits the store.
 pub(crate) fn session_of(client: bool, limit: usize) -> Session {
-    let handed = session::new::new(role_of(client), session::range::MOST_FRAME, limit, false);
-    handed.session
-}
-
-fn no_masks() -> Masks {
-    Masks {
-        first: [0; 4],
-        second: [0; 4],
-    }
-}
-
-fn with_event(tally: Tally, n: usize) -> Tally {
-    Tally {
-        events: std::num::wrapping_add_u64(tally.events, 1),
-        bytes: std::num::wrapping_add_u64(tally.bytes, n as u64),
-    }
-}
-
-fn with_answer(tally: Tally, answer: Answer) -> Tally {
-    match answer {
-        Answer::Text(n) => with_event(tally, n),
-        Answer::Binary(n) => with_event(tally, n),
-        Answer::Ping(n) => with_event(tally, n),
-        Answer::Pong(n) => with_event(tally, n),
-        Answer::Close(n) => with_event(tally, n),
-        Answer::More => tally,
-        Answer::Closed => tally,
-        Answer::Refused(_) => tally,
-    }
+    let role = if client { Role::Client } else { Role::Server };
+    session::new::new(role, session::range::MOST_FRAME, limit, false).session
 }
 
 // Reads a stream that comes in pieces of `size` bytes. What an event leaves of a piece is offered again. A call that takes nothing ends it:
-// the session was refused.
+// the session was refused. Of pieces without a byte nothing is ever read.
 fn read_all(
     begun: Session,
     stream: &[u8],
@@ -58,36 +40,33 @@ fn read_all(
     control: &mut [u8],
     output: &mut [u8],
 ) -> Tally {
+    let mut tally = Tally::default();
+    if size == 0 {
+        return tally;
+    }
     let mut turn = Turn {
         answer: Answer::More,
         taken: 0,
         session: begun,
     };
-    let mut tally = Tally {
-        events: 0,
-        bytes: 0,
-    };
-    let mut at = 0;
-    let mut end = 0;
-    while at < stream.len() {
-        end = crate::places::piece_end(at, end, size, stream.len());
-        let session = turn.session;
-        turn = reader::read::read(
-            session,
-            &stream[at..end],
-            false,
-            no_masks(),
-            message,
-            control,
-            output,
-        );
-        let answer = turn.answer;
-        tally = with_answer(tally, answer);
-        let next = crate::places::onward(at, turn.taken, end);
-        if next == at {
-            break;
+    for piece in stream.chunks(size) {
+        let mut left = piece;
+        while !left.is_empty() {
+            turn = reader::read::read(
+                turn.session,
+                left,
+                false,
+                crate::sends::masks_of(0),
+                message,
+                control,
+                output,
+            );
+            tally.count(turn.answer);
+            if turn.taken == 0 {
+                return tally;
+            }
+            left = &left[turn.taken.min(left.len())..];
         }
-        at = next;
     }
     tally
 }
