@@ -17,10 +17,7 @@ pub fn apply_mask(piece: &[u8], store: &mut [u8], at: usize, mask: [u8; 4], posi
     let key = blocks::key_at(mask, position);
     let (blocks, rest) = piece.as_chunks();
     for (i, block) in blocks.iter().enumerate() {
-        // The compiler can't know that piece and store are apart. It makes vector code of this since all of a block is read before any of it is
-        // written.
-        let place = at + 8 * i;
-        store[place..place + 8].copy_from_slice(&blocks::xor(*block, key));
+        blocks::lay_block(blocks::xor(*block, key), store, at + 8 * i);
     }
     lay_bytes(rest, store, at + 8 * blocks.len(), key);
 }

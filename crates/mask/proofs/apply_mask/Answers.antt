@@ -2,7 +2,7 @@
 use Rattle.std.proofs.Common.{◌≡◌, ◌+◌, ◌*◌, length, arith}
 use Rattle.base.proofs.Stores.{laid_none}
 use Rattle.mask.specs.Mask.{masked}
-use Rattle.mask.proofs.BlockLaws.{block_at, laid_over, laid-block, laid-whole}
+use Rattle.mask.proofs.BlockLaws.{block_at, laid-block, laid-whole}
 use Rattle.mask.proofs.apply_mask.Goals as goal
 
 pub loop-i-init : goal.loop-i-init
@@ -14,8 +14,7 @@ loop-i-preserved c =
     let more : 8 * (c.loop-i.i + 1) ≡ 8 * c.loop-i.i + 8 = omega arith in
     rw more
     (laid-block _ c.args.mask c.args.piece.now _ c.args.position (8 * c.loop-i.i) c.key_at-key.ensures (omega arith) (omega arith)
-    c.loop-i.invariant (block_at _ _ _ c.as_chunks.ensures.front (omega arith)) c.xor.ensures
-    (laid_over _ _ _ _ c.copy_from_slice.ensures.after (omega arith) (omega arith)))
+    c.loop-i.invariant (block_at _ _ _ c.as_chunks.ensures.front (omega arith)) c.xor.ensures c.lay_block.ensures)
 
 pub returns : goal.returns
 returns c =
