@@ -1,4 +1,4 @@
--- The two directions of the opcodes agree, and so do the two ways to say which close codes are allowed.
+-- The two directions of the opcodes agree, so do those of the close codes, and so do the two ways to say which close codes are allowed.
 use mathlib.Core.Path.{◌≡◌, refl, sym, ap, ◌∙◌}
 use mathlib.Core.Bool.{Bool, true, false}
 use mathlib.Core.Logic.{◌⊎◌, inl, inr, ⊎_elim}
@@ -15,7 +15,7 @@ use Rattle.coding.specs.declared.opcode.Control.TheVariants.{Close, Ping, Pong}
 use Rattle.coding.specs.declared.opcode.Data.{Data as DataKind}
 use Rattle.coding.specs.declared.opcode.Data.TheVariants.{Continue, Text, Binary}
 use Rattle.coding.specs.declared.opcode.OpCode.TheVariants.{Data, Control, Reserved}
-use Rattle.coding.specs.CloseCodes.{class_rows, class_of, allowed_class, allowed_rows, allowed}
+use Rattle.coding.specs.CloseCodes.{class_rows, class_of, class_code, allowed_class, allowed_rows, allowed}
 use Rattle.coding.specs.Opcodes.{opcode_rows, opcode_of, opcode_number}
 use Rattle.base.proofs.Keys.{NoKey, by_ranges}
 
@@ -49,6 +49,13 @@ opcode_of_control Pong = refl
 pub opcode_of_reserved : (n : ℕ) → NoKey opcode_rows n → opcode_of (opcode_number (Reserved n)) ≡ Reserved n
 unfolding opcode_of
 opcode_of_reserved n k = by_ranges opcode_rows (Reserved n) n k ∙ no_row (Reserved n) n
+
+-- a code is its class's code: computed at the rows, and behind them every code is bad, and kept
+pub code_of_class : (n : ℕ) → class_code (class_of n) ≡ n
+unfolding class_of value_at
+code_of_class n =
+    ⊎_elim (λ h. eqb→eq (class_code (class_of n)) n (in_range (λ m. eqb (class_code (class_of m)) m) 0 5000 tt n zero-le h))
+    (λ h. ap class_code (at_range (class_rows n) (Bad n) 5000 n (Bad n) refl n h (le_refl n))) (below_or_from n 5000)
 
 -- a code is allowed just where its class is: computed at the rows, and behind them no code is
 pub allowed-class : (n : ℕ) → allowed_class (class_of n) ≡ allowed n

@@ -26,6 +26,27 @@ class_rows n =
 unfoldable pub class_of : ℕ → CloseCode
 class_of n = value_at (class_rows n) (Bad n) n
 
+-- the code of a class: the single one, or the one that the class keeps
+abbrev pub class_code : CloseCode → ℕ
+class_code Normal = 1000
+class_code Away = 1001
+class_code Protocol = 1002
+class_code Unsupported = 1003
+class_code Status = 1005
+class_code Abnormal = 1006
+class_code Invalid = 1007
+class_code Policy = 1008
+class_code Size = 1009
+class_code Extension = 1010
+class_code Error = 1011
+class_code Restart = 1012
+class_code Again = 1013
+class_code Tls = 1015
+class_code (Reserved n) = n
+class_code (Iana n) = n
+class_code (Library n) = n
+class_code (Bad n) = n
+
 -- the classes whose codes a peer may send
 abbrev pub allowed_class : CloseCode → Bool
 allowed_class Normal = true

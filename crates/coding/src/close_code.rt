@@ -1,6 +1,6 @@
 // The status code of a close frame (RFC 6455, 7.4).
 ghost use Rattle.std.specs.Prelude.{◌≡◌};
-ghost use Rattle.coding.specs.CloseCodes.{class_of, allowed_class, allowed};
+ghost use Rattle.coding.specs.CloseCodes.{class_of, class_code, allowed_class, allowed};
 
 // The class of a code. Those that stand for a range of codes keep the code.
 #[derive(Clone, Copy)]
@@ -25,11 +25,12 @@ pub enum CloseCode {
     Bad(u16),
 }
 
-impl CloseCode {
-    // The arms and their order are the Rust's.
-    pub fn from_u16(code: u16) -> CloseCode
-        ensures { result ≡ class_of code }
-    {
+// The arms and their order are the Rust's.
+impl From<u16> for CloseCode {
+    ghost from_gives = { λ code class. class ≡ class_of code };
+
+    #[tactic(auto, unfolding(crate::specs::CloseCodes::class_of, base::specs::Table::value_at))]
+    fn from(code: u16) -> CloseCode {
         match code {
             1000 => CloseCode::Normal,
             1001 => CloseCode::Away,
@@ -52,19 +53,48 @@ impl CloseCode {
             _ => CloseCode::Bad(code),
         }
     }
+}
 
+impl From<CloseCode> for u16 {
+    ghost from_gives = { λ class code. code ≡ class_code class };
+
+    fn from(class: CloseCode) -> u16 {
+        match class {
+            CloseCode::Normal => 1000,
+            CloseCode::Away => 1001,
+            CloseCode::Protocol => 1002,
+            CloseCode::Unsupported => 1003,
+            CloseCode::Status => 1005,
+            CloseCode::Abnormal => 1006,
+            CloseCode::Invalid => 1007,
+            CloseCode::Policy => 1008,
+            CloseCode::Size => 1009,
+            CloseCode::Extension => 1010,
+            CloseCode::Error => 1011,
+            CloseCode::Restart => 1012,
+            CloseCode::Again => 1013,
+            CloseCode::Tls => 1015,
+            CloseCode::Reserved(code)
+            | CloseCode::Iana(code)
+            | CloseCode::Library(code)
+            | CloseCode::Bad(code) => code,
+        }
+    }
+}
+
+impl CloseCode {
     // Whether a peer may send it in a close frame. Status, Abnormal and Tls tell of an end without one (RFC 6455, 7.4.1).
     pub fn is_allowed(self) -> bool
         ensures { result ≡ allowed_class self }
     {
-        match self {
+        !matches!(
+            self,
             CloseCode::Bad(_)
-            | CloseCode::Reserved(_)
-            | CloseCode::Status
-            | CloseCode::Abnormal
-            | CloseCode::Tls => false,
-            _ => true,
-        }
+                | CloseCode::Reserved(_)
+                | CloseCode::Status
+                | CloseCode::Abnormal
+                | CloseCode::Tls
+        )
     }
 }
 
@@ -72,5 +102,5 @@ impl CloseCode {
 pub fn is_allowed(code: u16) -> bool
     ensures { result ≡ allowed code }
 {
-    CloseCode::from_u16(code).is_allowed()
+    CloseCode::from(code).is_allowed()
 }

@@ -26,37 +26,35 @@ pub enum OpCode {
     Reserved(u8),
 }
 
-impl OpCode {
-    // Takes a header's whole first byte: the flags above the four low bits are not looked at.
-    pub fn from_u8(byte: u8) -> OpCode
-        ensures { result ≡ opcode_of (byte % 16) }
-    {
-        let number = byte & 0x0f;
-        match number {
+// Takes a header's whole first byte: the flags above the four low bits are not looked at.
+impl From<u8> for OpCode {
+    ghost from_gives = { λ byte opcode. opcode ≡ opcode_of (byte % 16) };
+
+    #[tactic(auto, unfolding(crate::specs::Opcodes::opcode_of, base::specs::Table::value_at))]
+    fn from(byte: u8) -> OpCode {
+        match byte & 0x0f {
             0 => OpCode::Data(Data::Continue),
             1 => OpCode::Data(Data::Text),
             2 => OpCode::Data(Data::Binary),
             8 => OpCode::Control(Control::Close),
             9 => OpCode::Control(Control::Ping),
             10 => OpCode::Control(Control::Pong),
-            _ => OpCode::Reserved(number),
+            number => OpCode::Reserved(number),
         }
     }
+}
 
-    pub fn into_u8(self) -> u8
-        ensures { result ≡ opcode_number self }
-    {
-        match self {
-            OpCode::Data(data) => match data {
-                Data::Continue => 0,
-                Data::Text => 1,
-                Data::Binary => 2,
-            },
-            OpCode::Control(control) => match control {
-                Control::Close => 8,
-                Control::Ping => 9,
-                Control::Pong => 10,
-            },
+impl From<OpCode> for u8 {
+    ghost from_gives = { λ opcode number. number ≡ opcode_number opcode };
+
+    fn from(opcode: OpCode) -> u8 {
+        match opcode {
+            OpCode::Data(Data::Continue) => 0,
+            OpCode::Data(Data::Text) => 1,
+            OpCode::Data(Data::Binary) => 2,
+            OpCode::Control(Control::Close) => 8,
+            OpCode::Control(Control::Ping) => 9,
+            OpCode::Control(Control::Pong) => 10,
             OpCode::Reserved(number) => number,
         }
     }

@@ -1,5 +1,5 @@
 use native.Mathlib.Omega.{arith}
-use mathlib.Core.Path.{◌≡◌, refl, sym, ap, ◌∙◌}
+use mathlib.Core.Path.{◌≡◌, refl, sym, ◌∙◌}
 use Prim.Native.Nat.{ℕ, suc, ◌<◌, ◌≤◌, zero-le}
 use native.Mathlib.Nat.{le_of_suc-le-suc, lt-suc_self}
 use Rattle.base.specs.Table.{value_at}
@@ -8,7 +8,7 @@ use Rattle.coding.specs.declared.close_code.CloseCode.{CloseCode}
 use Rattle.coding.specs.declared.close_code.CloseCode.TheVariants.{Bad}
 use Rattle.coding.specs.CloseCodes.{class_rows, class_of}
 use Rattle.base.proofs.Keys.{Rest, no_key, ranges, by_ranges, past, from_past}
-use Rattle.coding.proofs.close_code.CloseCode.from_u16.Goals as goal
+use Rattle.coding.proofs.close_code.CloseCodeFromU16.from.Goals as goal
 
 -- a code from lo to hi that is no single one
 in_range_lem : {n : ℕ} → Rest (class_rows n) n (Unit {0}) → (lo hi : ℕ) {v : CloseCode} → Steady (ranges (class_rows n)) (Bad n) (past (class_rows n) lo) hi v
@@ -18,62 +18,6 @@ in_range_lem {n} r lo hi {v} e l h =
     let k = no_key (class_rows n) n r in
     sym (by_ranges (class_rows n) (Bad n) n k
     ∙ at_range (ranges (class_rows n)) (Bad n) (past (class_rows n) lo) hi v e n (from_past (class_rows n) lo n k l) (le_of_suc-le-suc h))
-
-pub returns-in-1000 : goal.returns-in-1000
-unfolding class_of value_at
-returns-in-1000 c = sym (ap class_of c.in-1000.is)
-
-pub returns-in-1001 : goal.returns-in-1001
-unfolding class_of value_at
-returns-in-1001 c = sym (ap class_of c.in-1001.is)
-
-pub returns-in-1002 : goal.returns-in-1002
-unfolding class_of value_at
-returns-in-1002 c = sym (ap class_of c.in-1002.is)
-
-pub returns-in-1003 : goal.returns-in-1003
-unfolding class_of value_at
-returns-in-1003 c = sym (ap class_of c.in-1003.is)
-
-pub returns-in-1005 : goal.returns-in-1005
-unfolding class_of value_at
-returns-in-1005 c = sym (ap class_of c.in-1005.is)
-
-pub returns-in-1006 : goal.returns-in-1006
-unfolding class_of value_at
-returns-in-1006 c = sym (ap class_of c.in-1006.is)
-
-pub returns-in-1007 : goal.returns-in-1007
-unfolding class_of value_at
-returns-in-1007 c = sym (ap class_of c.in-1007.is)
-
-pub returns-in-1008 : goal.returns-in-1008
-unfolding class_of value_at
-returns-in-1008 c = sym (ap class_of c.in-1008.is)
-
-pub returns-in-1009 : goal.returns-in-1009
-unfolding class_of value_at
-returns-in-1009 c = sym (ap class_of c.in-1009.is)
-
-pub returns-in-1010 : goal.returns-in-1010
-unfolding class_of value_at
-returns-in-1010 c = sym (ap class_of c.in-1010.is)
-
-pub returns-in-1011 : goal.returns-in-1011
-unfolding class_of value_at
-returns-in-1011 c = sym (ap class_of c.in-1011.is)
-
-pub returns-in-1012 : goal.returns-in-1012
-unfolding class_of value_at
-returns-in-1012 c = sym (ap class_of c.in-1012.is)
-
-pub returns-in-1013 : goal.returns-in-1013
-unfolding class_of value_at
-returns-in-1013 c = sym (ap class_of c.in-1013.is)
-
-pub returns-in-1015 : goal.returns-in-1015
-unfolding class_of value_at
-returns-in-1015 c = sym (ap class_of c.in-1015.is)
 
 pub returns-in-1-to-999 : goal.returns-in-1-to-999
 unfolding class_of value_at
