@@ -10,8 +10,8 @@ use lib.Dec.{T, eqb, eqb→eq}
 use Rattle.base.specs.Table.{pick}
 use Rattle.base.proofs.Range.{same, same_eq, all_from, in_range, at_both, at_bool}
 use Rattle.coding.specs.Opcodes.{opcode_of, opcode_number}
-use Rattle.frame.specs.declared.bits.First.{First}
-use Rattle.frame.specs.declared.bits.Second.{Second}
+use Rattle.frame.specs.Header.{First}
+use Rattle.frame.specs.Header.{Second}
 use Rattle.frame.specs.Header.{bit, first_of, second_of, first_byte, second_byte}
 
 -- ---- the first byte

@@ -2,11 +2,13 @@
 use mathlib.Core.Path.{◌≡◌, refl, ◌∙◌}
 use mathlib.Core.Bool.{Bool, true, false}
 use mathlib.Core.List.{List, [], ◌∷◌, ◌++◌}
-use Prim.Native.Nat.{ℕ, ◌<◌, ◌≤◌}
+use Prim.Native.Nat.{ℕ, ◌-◌, ◌<◌, ◌≤◌}
+use native.Mathlib.Nat.{div-one}
 use native.Mathlib.Omega.{arith}
 use lib.Dec.{leb}
 use lib.ListN.{length, take, drop}
 use borrow.Author.Tests.{le-leb, lt-leb, leb-true, leb-false}
+use Rattle.std.specs.Int.{w16, w64, to_be_bytes}
 use Rattle.base.specs.Bytes.{to_big}
 use Rattle.base.specs.Table.{pick, within, value_at}
 use Rattle.base.proofs.Bytes.{length-to_big, from_big-to_big, part-between}
@@ -86,10 +88,14 @@ module _ (n : ℕ) (h : 65536 ≤ n) where
   unfolding plain_size
   size_long = rw (lt-leb n 125 (omega arith), lt-leb n 65535 h)
 
--- the two low bytes of eight
-pub low_two : (n : ℕ) → take 2 (drop 6 (to_big 8 n)) ≡ to_big 2 n
+-- the library's bytes of a number
+pub be_two : (n : ℕ) → to_be_bytes w16 n ≡ to_big 2 n
 unfolding to_big
-low_two n = refl
+be_two n = simp div-one
+
+pub be_eight : (n : ℕ) → to_be_bytes w64 n ≡ to_big 8 n
+unfolding to_big
+be_eight n = simp div-one
 
 -- ---- what is written reads back
 pub code_most : (n : ℕ) → length_code n < 128
@@ -108,6 +114,17 @@ extra_written n = go (form n)
     go (short h) = rw (code_short n h, bytes_short n h) (extra_other n (omega arith) (omega arith))
     go (middle h k) = rw (code_middle n h k, bytes_middle n h k, length-to_big)
     go (long h) = rw (code_long n h, bytes_long n h, length-to_big)
+
+-- as many of the low bytes of eight as follow the code
+pub low_bytes : (n : ℕ) {e c : ℕ} {bytes : List ℕ} → e ≡ extra_bytes c → c ≡ length_code n → bytes ≡ to_be_bytes w64 n
+    → take (8 - (8 - e)) (drop (8 - e) bytes) ≡ length_bytes n
+unfolding to_big
+low_bytes n p q r = rw (p, q, r, be_eight n, extra_written n) (go (form n))
+  where
+    go : Form n → take (8 - (8 - length (length_bytes n))) (drop (8 - length (length_bytes n)) (to_big 8 n)) ≡ length_bytes n
+    go (short h) = rw (bytes_short n h)
+    go (middle h k) = rw (bytes_middle n h k)
+    go (long h) = rw (bytes_long n h)
 
 -- for every length of 64 bits, whatever stands before and behind
 pub length-read_back : (a b n : ℕ) (rest : List ℕ) → n < 18446744073709551616 → length_of (length_code n) (a ∷ (b ∷ (length_bytes n ++ rest))) ≡ n

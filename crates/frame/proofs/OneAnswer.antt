@@ -13,6 +13,8 @@ use Rattle.frame.proofs.header.header_size.Kinds as header-size
 use Rattle.frame.proofs.header.header_size.Reads as header-size-reads
 use Rattle.frame.proofs.header.mask_of.Kinds as mask-of
 use Rattle.frame.proofs.header.mask_of.Reads as mask-of-reads
+use Rattle.frame.proofs.header.missing.Kinds as missing
+use Rattle.frame.proofs.header.missing.Reads as missing-reads
 use Rattle.frame.proofs.header.parse.Kinds as parse
 use Rattle.frame.proofs.header.parse.Reads as parse-reads
 use Rattle.frame.proofs.header.size_by.Kinds as size-by
@@ -20,6 +22,9 @@ use Rattle.frame.proofs.header.size_by.Reads as size-by-reads
 
 pub parse_one : OneAnswer 1 parse.ps parse.r parse-reads.Post
 parse_one κs a z z' e e' p q = p ∙ sym q
+
+pub missing_one : OneAnswer 1 missing.ps missing.r missing-reads.Post
+missing_one κs a z z' e e' p q = p ∙ sym q
 
 pub mask_of_one : OneAnswer 1 mask-of.ps mask-of.r mask-of-reads.Post
 mask_of_one κs a z z' e e' p q = p ∙ sym q

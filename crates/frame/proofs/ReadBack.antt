@@ -13,9 +13,9 @@ use Rattle.base.specs.Bytes.{part}
 use Rattle.base.specs.Table.{pick}
 use Rattle.base.proofs.Bytes.{part-between}
 use Rattle.coding.specs.Opcodes.{opcode_of, opcode_number}
-use Rattle.frame.specs.declared.bits.Second.{Second}
+use Rattle.frame.specs.Header.{Second}
 use Rattle.frame.specs.declared.header.FrameHeader.{FrameHeader}
-use Rattle.frame.specs.declared.header.Parsed.TheVariants.{Lacking, Whole}
+use Rattle.std.specs.Prelude.{None, Some}
 use Rattle.frame.specs.Header.{first_of, second_of, length_of, size_by, missing, header, header_of, parsed, no_mask, mask_in, length_code, length_bytes, flags, first_byte, second_byte, header_bytes, header_size}
 use Rattle.frame.proofs.Flags.{split_joined_first, split_joined_second}
 use Rattle.frame.proofs.Lengths.{code_most, extra_written, length-read_back}
@@ -52,14 +52,14 @@ module _ (f : FrameHeader) (mask : List ℕ) (four : length mask ≡ 4) where
         omega (arith, missing-later stream (omega (arith, len, two_or_more)), len, size_back)
 
     -- the header
-    pub header-read_back : opcode_of (opcode_number f.opcode % 16) ≡ f.opcode → f.length < 18446744073709551616 → parsed stream ≡ Whole f
+    pub header-read_back : opcode_of (opcode_number f.opcode % 16) ≡ f.opcode → f.length < 18446744073709551616 → parsed stream ≡ Some f
     unfolding header_of header_bytes
     header-read_back o h =
         let first : first_of (first_byte (flags f)) ≡ flags f = split_joined_first (flags f) o in
         let n : length_of (second_of (second_byte second)).code stream ≡ f.length =
         ap (λ (s : Second). length_of s.code stream) second_back
         ∙ rw append_assoc (length-read_back (first_byte (flags f)) (second_byte second) f.length (pick f.masked mask [] ++ rest) h) in
-        parsed-whole stream whole ∙ (λ i. Whole (header (first i) (second_back i).masked (n i)))
+        parsed-whole stream whole ∙ (λ i. Some (header (first i) (second_back i).masked (n i)))
 
     -- its mask
     pub mask_read_back : f.masked ≡ true → mask_in stream ≡ mask
@@ -78,7 +78,7 @@ module _ (f : FrameHeader) (mask : List ℕ) (four : length mask ≡ 4) where
     no_mask_read_back m = mask_none stream whole (ap (λ (s : Second). s.masked) second_back ∙ m)
 
   -- before its last byte
-  pub lacking_before : (k : ℕ) → k < header_size f.masked f.length → parsed (take k (header_bytes f mask)) ≡ Lacking
+  pub lacking_before : (k : ℕ) → k < header_size f.masked f.length → parsed (take k (header_bytes f mask)) ≡ None
   lacking_before k h = parsed-lacking (take k (header_bytes f mask)) (go (leb 2 k) refl)
     where
       len : length (take k (header_bytes f mask)) ≡ k

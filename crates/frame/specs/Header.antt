@@ -1,20 +1,30 @@
 -- Frame headers (RFC 6455, 5.2; document 01, "Frame header"). h stands for the bytes of a stream from a frame's first byte on.
-use Rattle.std.specs.Prelude.{Bool, not, List, [], ◌∷◌, ◌++◌, ℕ, ◌+◌, ◌-◌, ◌%◌, leb, eqb, length, get_or}
+use Rattle.std.specs.Prelude.{Bool, not, Option, None, Some, List, [], ◌∷◌, ◌++◌, ℕ, ◌+◌, ◌-◌, ◌%◌, leb, eqb, length, get_or}
 use Rattle.std.specs.Int.Bits.{bit_and}
 use Rattle.base.specs.Bytes.{part, from_big, to_big}
 use Rattle.base.specs.Table.{pick, ◌to◌is◌, value_at}
+use Rattle.base.specs.Tests.{both}
+use Rattle.coding.specs.declared.opcode.OpCode.{OpCode}
 use Rattle.coding.specs.Opcodes.{opcode_of, opcode_number}
-use Rattle.frame.specs.declared.bits.First.{First}
-use Rattle.frame.specs.declared.bits.Second.{Second}
 use Rattle.frame.specs.declared.header.FrameHeader.{FrameHeader}
-use Rattle.frame.specs.declared.header.Parsed.{Parsed}
-use Rattle.frame.specs.declared.header.Parsed.TheVariants.{Lacking, Whole}
 
 -- ---- reading
 
 -- the bit m of the byte b is set
 abbrev pub bit : ℕ → ℕ → Bool
 bit m b = not (eqb (bit_and b m) 0)
+
+-- what the first byte says, and the second
+pub record First : Type 0 where
+  pub fin : Bool
+  pub rsv1 : Bool
+  pub rsv2 : Bool
+  pub rsv3 : Bool
+  pub opcode : OpCode
+
+pub record Second : Type 0 where
+  pub masked : Bool
+  pub code : ℕ
 
 -- "Bit 0x80 is final, 0x40, 0x20 and 0x10 are reserved; the four low bits of the first byte are the opcode"
 unfoldable pub first_of : ℕ → First
@@ -48,8 +58,8 @@ header f masked n =
 unfoldable pub header_of : List ℕ → FrameHeader
 header_of h = header (first_of (get_or h 0 0)) (second_of (get_or h 1 0)).masked (length_of (second_of (get_or h 1 0)).code h)
 
-unfoldable pub parsed : List ℕ → Parsed
-parsed h = pick (eqb (missing h) 0) (Whole (header_of h)) Lacking
+unfoldable pub parsed : List ℕ → Option FrameHeader
+parsed h = pick (eqb (missing h) 0) (Some (header_of h)) None
 
 abbrev pub no_mask : List ℕ
 no_mask = 0 ∷ 0 ∷ 0 ∷ 0 ∷ []
@@ -60,6 +70,10 @@ mask_in h =
     pick (eqb (missing h) 0)
     (pick (second_of (get_or h 1 0)).masked (part (size_by (get_or h 1 0) - 4) 4 h) no_mask)
     no_mask
+
+-- the mask of a whole header that has one
+unfoldable pub mask_given : List ℕ → Option (List ℕ)
+mask_given h = pick (both (eqb (missing h) 0) (second_of (get_or h 1 0)).masked) (Some (mask_in h)) None
 
 -- ---- writing
 

@@ -12,30 +12,22 @@ pub enum ClosePayload {
     CodeAndReason(u16),
 }
 
-fn wide(byte: u8) -> u16
-    ensures { (result ≡ byte) × (result ≤ 255) }
-{
-    byte as u16
-}
-
 // What a close payload says.
 pub fn into_close(payload: &[u8]) -> ClosePayload
     ensures { result ≡ close_of payload.now }
 {
-    if payload.len() == 0 {
-        return ClosePayload::Empty;
+    match payload {
+        [] => ClosePayload::Empty,
+        [_] => ClosePayload::OneByte,
+        [high, low, ..] => ClosePayload::CodeAndReason(u16::from_be_bytes([*high, *low])),
     }
-    if payload.len() == 1 {
-        return ClosePayload::OneByte;
-    }
-    ClosePayload::CodeAndReason(wide(payload[0]) * 256 + wide(payload[1]))
 }
 
 // The two bytes of a code, which the writer puts before the reason.
 pub fn code_bytes(code: u16) -> [u8; 2]
     ensures { result ≡ to_big 2 code }
 {
-    [(code / 256) as u8, (code % 256) as u8]
+    code.to_be_bytes()
 }
 
 // Lays code 1002 and its reason over the first twenty bytes of the store, in place of a code that is not allowed.
@@ -43,8 +35,6 @@ pub fn write_violation(store: &mut [u8])
     requires { 20 ≤ length store.old }
     ensures { store.new ≡ laid store.old 0 (close_bytes 1002 violation) }
 {
-    let code = code_bytes(1002);
-    stores::copy(&code, store, 0);
-    let reason = b"Protocol violation";
-    stores::copy(reason, store, 2);
+    stores::copy(&code_bytes(1002), store, 0);
+    stores::copy(b"Protocol violation", store, 2);
 }

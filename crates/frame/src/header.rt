@@ -1,12 +1,13 @@
 // A frame's header (the Rust's FrameHeader), read and written whole.
 ghost use Rattle.std.specs.Prelude.{◌≡◌, ◌+◌, ◌≤◌, length};
 ghost use Rattle.base.specs.Stores.{laid};
-ghost use Rattle.frame.specs.Header.{size_by, missing, parsed, mask_in, plain_size, header_size, header_bytes};
+ghost use Rattle.base.specs.Table.{pick};
+ghost use Rattle.frame.specs.Header.{size_by, missing, parsed, mask_given, header_size, header_bytes, first_byte, second_byte, flags, length_code};
 
-use crate::bits::{First, Second};
+use crate::length;
 use coding::opcode::OpCode;
 
-// What a header says, but for its mask: that stands beside it, since an enum holds no array.
+// What a header says, but for its mask, which is read where payload is unmasked: `mask_of`.
 #[derive(Clone, Copy)]
 pub struct FrameHeader {
     pub fin: bool,
@@ -18,98 +19,85 @@ pub struct FrameHeader {
     pub length: u64,
 }
 
-// What the bytes from a frame's first byte on are as a header.
-#[derive(Clone, Copy)]
-pub enum Parsed {
-    Lacking,
-    Whole(FrameHeader),
-}
-
 // The header's size, by its second byte.
 pub fn size_by(second: u8) -> usize
     ensures { (result ≡ size_by second) × (result ≤ 14) }
 {
-    let split = crate::bits::split_second(second);
-    let size = 2 + crate::length::extra_bytes(split.code);
-    if split.masked {
-        return size + 4;
-    }
-    size
+    let size = 2 + length::extra_bytes(second & 0x7f);
+    if second & 0x80 != 0 { size + 4 } else { size }
 }
 
-// How many more bytes finish the header, at least.
-fn missing_bytes(bytes: &[u8]) -> usize
+// How many more bytes finish the header that the bytes begin with, at least: none where it is whole.
+pub fn missing(bytes: &[u8]) -> usize
     ensures { result ≡ missing bytes.now }
 {
-    if bytes.len() < 2 {
-        return 2 - bytes.len();
+    match bytes {
+        [_, second, ..] => size_by(*second).saturating_sub(bytes.len()),
+        _ => 2 - bytes.len(),
     }
-    let size = size_by(bytes[1]);
-    if size <= bytes.len() {
-        return 0;
-    }
-    size - bytes.len()
 }
 
-// Reads the header that the bytes begin with; those behind it are not looked at.
-pub fn parse(bytes: &[u8]) -> Parsed
+// Reads the header that the bytes begin with, where it is whole; those behind it are not looked at.
+pub fn parse(bytes: &[u8]) -> Option<FrameHeader>
     ensures { result ≡ parsed bytes.now }
 {
-    if missing_bytes(bytes) != 0 {
-        return Parsed::Lacking;
+    if missing(bytes) != 0 {
+        return None;
     }
-    let first = crate::bits::split_first(bytes[0]);
-    let second = crate::bits::split_second(bytes[1]);
-    let length = crate::length::length_of(second.code, bytes);
-    let opcode = first.opcode;
-    Parsed::Whole(FrameHeader {
-        fin: first.fin,
-        rsv1: first.rsv1,
-        rsv2: first.rsv2,
-        rsv3: first.rsv3,
-        opcode,
-        masked: second.masked,
-        length,
+    let (first, second) = (bytes[0], bytes[1]);
+    Some(FrameHeader {
+        fin: first & 0x80 != 0,
+        rsv1: first & 0x40 != 0,
+        rsv2: first & 0x20 != 0,
+        rsv3: first & 0x10 != 0,
+        opcode: OpCode::from(first),
+        masked: second & 0x80 != 0,
+        length: length::length_of(second & 0x7f, bytes),
     })
 }
 
-// The mask of a whole header, zeros where it has none.
-pub fn mask_of(bytes: &[u8]) -> [u8; 4]
-    ensures { result ≡ mask_in bytes.now }
+// The mask of a whole header that has one.
+pub fn mask_of(bytes: &[u8]) -> Option<[u8; 4]>
+    ensures { result ≡ mask_given bytes.now }
 {
-    if missing_bytes(bytes) != 0 {
-        return [0; 4];
+    if missing(bytes) != 0 || bytes[1] & 0x80 == 0 {
+        return None;
     }
-    let second = crate::bits::split_second(bytes[1]);
-    if second.masked {
-        let at = size_by(bytes[1]) - 4;
-        return [bytes[at], bytes[at + 1], bytes[at + 2], bytes[at + 3]];
-    }
-    [0; 4]
-}
-
-// The size of a header with no mask, by the length's shortest form.
-fn plain_size(length: u64) -> usize
-    ensures { (result ≡ plain_size length) × (result ≤ 10) }
-{
-    if length <= 125 {
-        return 2;
-    }
-    if length <= 65535 {
-        return 4;
-    }
-    10
+    let at = size_by(bytes[1]) - 4;
+    Some([bytes[at], bytes[at + 1], bytes[at + 2], bytes[at + 3]])
 }
 
 // The size of the header that `format` writes.
 pub fn header_size(masked: bool, length: u64) -> usize
     ensures { result ≡ header_size masked length }
 {
-    let plain = plain_size(length);
-    if masked {
-        return plain + 4;
+    let plain = 2 + length::extra_bytes(length::length_code(length));
+    if masked { plain + 4 } else { plain }
+}
+
+// The bit where it is set, else nothing.
+fn flag(set: bool, bit: u8) -> u8
+    ensures { result ≡ pick set bit 0 }
+{
+    if set { bit } else { 0 }
+}
+
+impl FrameHeader {
+    fn first_byte(self) -> u8
+        ensures { result ≡ first_byte (flags self) }
+    {
+        u8::from(self.opcode) & 0x0f
+            | flag(self.fin, 0x80)
+            | flag(self.rsv1, 0x40)
+            | flag(self.rsv2, 0x20)
+            | flag(self.rsv3, 0x10)
     }
-    plain
+
+    fn second_byte(self) -> u8
+        ensures { result ≡ second_byte (record { masked = self.masked; code = length_code self.length }) }
+    {
+        length::length_code(self.length) & 0x7f | flag(self.masked, 0x80)
+    }
 }
 
 // Lays the header over the store from place `at` on, and gives the place behind it. The mask is written where the header says so.
@@ -117,19 +105,9 @@ pub fn format(header: FrameHeader, mask: [u8; 4], store: &mut [u8], at: usize) -
     requires { at + header_size header.masked header.length ≤ length store.old }
     ensures { (result ≡ at + header_size header.masked header.length) × (store.new ≡ laid store.old at (header_bytes header mask)) }
 {
-    let opcode = header.opcode;
-    store[at] = crate::bits::join_first(First {
-        fin: header.fin,
-        rsv1: header.rsv1,
-        rsv2: header.rsv2,
-        rsv3: header.rsv3,
-        opcode,
-    });
-    store[at + 1] = crate::bits::join_second(Second {
-        masked: header.masked,
-        code: crate::length::length_code(header.length),
-    });
-    let behind = crate::length::write_length(header.length, store, at + 2);
+    store[at] = header.first_byte();
+    store[at + 1] = header.second_byte();
+    let behind = length::write_length(header.length, store, at + 2);
     if header.masked {
         stores::copy(&mask, store, behind);
         return behind + 4;

@@ -1,12 +1,14 @@
 // A payload's length in its three forms (the Rust's LengthFormat).
 ghost use Rattle.std.specs.Prelude.{◌≡◌, ◌+◌, ◌≤◌, length};
-ghost use Rattle.base.specs.Bytes.{part, from_big, to_big};
+ghost use Rattle.base.specs.Bytes.{from_big};
 ghost use Rattle.base.specs.Stores.{laid};
 ghost use Rattle.frame.specs.Header.{extra_bytes, length_of, length_code, length_bytes};
 
 // How many bytes of length follow the second byte with this code.
+#[tactic(auto, unfolding(crate::specs::Header::extra_bytes, base::specs::Table::value_at))]
 pub(crate) fn extra_bytes(code: u8) -> usize
-    ensures { result ≡ extra_bytes code }
+    ensures value { result ≡ extra_bytes code }
+    ensures most { result ≤ 8 }
 {
     match code {
         126 => 2,
@@ -15,22 +17,14 @@ pub(crate) fn extra_bytes(code: u8) -> usize
     }
 }
 
-fn wide(byte: u8) -> u64
-    ensures { (result ≡ byte) × (result ≤ 255) }
+// The bytes as a number, most significant first.
+fn big(bytes: &[u8]) -> u64
+    requires { length bytes.now ≤ 8 }
+    ensures { result ≡ from_big bytes.now }
 {
-    byte as u64
-}
-
-// The count bytes from place 2 on as a number, most significant first.
-fn big_at(bytes: &[u8], count: usize) -> u64
-    requires { (count ≤ 8) × (2 + count ≤ length bytes.now) }
-    ensures { result ≡ from_big (part 2 count bytes.now) }
-{
-    let mut n: u64 = 0;
-    let mut i = 0;
-    while i < count {
-        n = n * 256 + wide(bytes[2 + i]);
-        i += 1;
+    let mut n = 0;
+    for byte in bytes {
+        n = n * 256 + u64::from(*byte);
     }
     n
 }
@@ -41,9 +35,9 @@ pub(crate) fn length_of(code: u8, bytes: &[u8]) -> u64
     ensures { result ≡ length_of code bytes.now }
 {
     match code {
-        126 => big_at(bytes, 2),
-        127 => big_at(bytes, 8),
-        _ => wide(code),
+        126 => big(&bytes[2..4]),
+        127 => big(&bytes[2..10]),
+        _ => u64::from(code),
     }
 }
 
@@ -51,29 +45,11 @@ pub(crate) fn length_of(code: u8, bytes: &[u8]) -> u64
 pub(crate) fn length_code(length: u64) -> u8
     ensures { result ≡ length_code length }
 {
-    if length <= 125 {
-        return length as u8;
+    match length {
+        0..=125 => length as u8,
+        126..=65535 => 126,
+        _ => 127,
     }
-    if length <= 65535 {
-        return 126;
-    }
-    127
-}
-
-// The eight bytes of a number, most significant first.
-fn big_bytes(n: u64) -> [u8; 8]
-    ensures { result ≡ to_big 8 n }
-{
-    [
-        (n / 0x100_0000_0000_0000 % 256) as u8,
-        (n / 0x1_0000_0000_0000 % 256) as u8,
-        (n / 0x100_0000_0000 % 256) as u8,
-        (n / 0x1_0000_0000 % 256) as u8,
-        (n / 0x100_0000 % 256) as u8,
-        (n / 0x1_0000 % 256) as u8,
-        (n / 0x100 % 256) as u8,
-        (n % 256) as u8,
-    ]
 }
 
 // Lays the bytes of length that follow the code over the store from place `at` on, and gives the place behind them.
@@ -81,14 +57,8 @@ pub(crate) fn write_length(n: u64, store: &mut [u8], at: usize) -> usize
     requires { at + length (length_bytes n) ≤ length store.old }
     ensures { (result ≡ at + length (length_bytes n)) × (store.new ≡ laid store.old at (length_bytes n)) }
 {
-    if n <= 125 {
-        return at;
-    }
-    let bytes = big_bytes(n);
-    if n <= 65535 {
-        stores::copy(&bytes[6..], store, at);
-        return at + 2;
-    }
-    stores::copy(&bytes, store, at);
-    at + 8
+    let bytes = n.to_be_bytes();
+    let extra = &bytes[8 - extra_bytes(length_code(n))..];
+    stores::copy(extra, store, at);
+    at + extra.len()
 }

@@ -7,4 +7,4 @@ use Rattle.frame.proofs.close.write_violation.Goals as goal
 pub returns : goal.returns
 unfolding violation
 returns c =
-    c.copy-2.ensures ∙ rw (c.copy.ensures, c.code_bytes-code.ensures) (laid-close _ 1002 violation)
+    c.copy-2.ensures ∙ rw (c.copy.ensures, c.code_bytes.ensures) (laid-close _ 1002 violation)

@@ -1,55 +1,16 @@
 -- `frame::header::size_by` meets its contract, with a mask and without.
-use mathlib.Core.Path.{◌≡◌, sym, ap, ◌∙◌}
-use Prim.Native.Nat.{ℕ}
+use mathlib.Core.Path.{ap, ◌∙◌}
 use native.Mathlib.Omega.{arith}
-use Rattle.frame.specs.declared.bits.Second.{Second}
-use Rattle.frame.specs.Header.{second_of, extra_bytes}
-use Rattle.frame.proofs.Lengths.{extra_most}
-use Rattle.frame.proofs.Headers.{size_masked, size_plain}
+use Rattle.frame.specs.Header.{extra_bytes}
+use Rattle.frame.proofs.Headers.{masked_set, masked_clear, code_low, size_masked, size_plain}
 use Rattle.frame.proofs.header.size_by.Goals as goal
 
-pub overflow_add-size : goal.overflow_add-size
-overflow_add-size c =
-    let b : ℕ =
-    c.args.second in
-    let code : ℕ =
-    (second_of b).code in
-    let extra : c.extra_bytes-size.result ≡ extra_bytes code =
-    c.extra_bytes-size.ensures ∙ ap (λ (s : Second). extra_bytes s.code) c.split_second-split.ensures in
-    omega (arith, extra, extra_most code)
+pub returns-then-second-ne0 : goal.returns-then-second-ne0
+returns-then-second-ne0 c =
+    let e = size_masked c.args.second (masked_set c.args.second c.if-second-ne0.true) in
+    (omega (arith, e, c.extra_bytes-size.ensures.value ∙ ap extra_bytes (code_low c.args.second)), omega arith)
 
-pub overflow_add-result : goal.overflow_add-result
-overflow_add-result c =
-    let b : ℕ =
-    c.args.second in
-    let code : ℕ =
-    (second_of b).code in
-    let extra : c.extra_bytes-size.result ≡ extra_bytes code =
-    c.extra_bytes-size.ensures ∙ ap (λ (s : Second). extra_bytes s.code) c.split_second-split.ensures in
-    omega (arith, extra, extra_most code)
-
-pub returns-then-split : goal.returns-then-split
-returns-then-split c =
-    let b : ℕ =
-    c.args.second in
-    let code : ℕ =
-    (second_of b).code in
-    let extra : c.extra_bytes-size.result ≡ extra_bytes code =
-    c.extra_bytes-size.ensures ∙ ap (λ (s : Second). extra_bytes s.code) c.split_second-split.ensures in
-    let masked : c.split_second-split.result.masked ≡ (second_of b).masked =
-    ap (λ (s : Second). s.masked) c.split_second-split.ensures in
-    let e = size_masked b (sym masked ∙ c.if-split.true) in
-    (omega (arith, e, extra), omega (arith, extra, extra_most code))
-
-pub returns : goal.returns
-returns c =
-    let b : ℕ =
-    c.args.second in
-    let code : ℕ =
-    (second_of b).code in
-    let extra : c.extra_bytes-size.result ≡ extra_bytes code =
-    c.extra_bytes-size.ensures ∙ ap (λ (s : Second). extra_bytes s.code) c.split_second-split.ensures in
-    let masked : c.split_second-split.result.masked ≡ (second_of b).masked =
-    ap (λ (s : Second). s.masked) c.split_second-split.ensures in
-    let e = size_plain b (sym masked ∙ c.if-split.false) in
-    (omega (arith, e, extra), omega (arith, extra, extra_most code))
+pub returns-else-second-ne0 : goal.returns-else-second-ne0
+returns-else-second-ne0 c =
+    let e = size_plain c.args.second (masked_clear c.args.second c.if-second-ne0.false) in
+    (omega (arith, e, c.extra_bytes-size.ensures.value ∙ ap extra_bytes (code_low c.args.second)), omega arith)
