@@ -1,5 +1,5 @@
 -- Every call of document 01 as a function on values: one answer, one session and one content of every store.
-use Rattle.std.specs.Prelude.{Bool, false, not, List, [], ◌∷◌, ℕ, ◌-◌, eqb, ltb, length, take, drop, replicate}
+use Rattle.std.specs.Prelude.{Bool, false, not, List, [], ◌∷◌, ℕ, ◌-◌, Option, None, Some, eqb, ltb, length, take, drop, replicate}
 use Rattle.base.specs.Bytes.{part}
 use Rattle.base.specs.Stores.{laid}
 use Rattle.base.specs.Table.{pick}
@@ -11,21 +11,17 @@ use Rattle.coding.specs.declared.opcode.OpCode.TheVariants.{Data, Control}
 use Rattle.frame.specs.Close.{close_bytes}
 use Rattle.session.specs.declared.Answer.{Answer}
 use Rattle.session.specs.declared.Answer.TheVariants.{More, Closed, Refused}
-use Rattle.session.specs.declared.Closing.{Closing}
-use Rattle.session.specs.declared.Closing.TheVariants.{Empty, Code}
-use Rattle.session.specs.declared.Handed.{Handed}
 use Rattle.session.specs.declared.Incoming.{Incoming}
 use Rattle.session.specs.declared.Masks.{Masks}
 use Rattle.session.specs.declared.Reply.{Reply}
 use Rattle.session.specs.declared.Role.{Role}
 use Rattle.session.specs.declared.Role.TheVariants.{Server, Client}
-use Rattle.session.specs.declared.Sent.{Sent}
-use Rattle.session.specs.declared.Sent.TheVariants.{Done, Refused as NotSent}
 use Rattle.session.specs.declared.Session.{Session}
 use Rattle.session.specs.declared.Settings.{Settings}
 use Rattle.session.specs.declared.Turn.{Turn}
 use Rattle.session.specs.declared.Waiting.TheVariants.{Nothing}
 use Rattle.session.specs.Range.{limits_hold, in_range, waits}
+use Rattle.session.specs.Refusals.{Sent, Done, Refused as NotSent}
 use Rattle.session.specs.Reading.{world, At, after, settle, feed, is_more}
 use Rattle.session.specs.Replies.{encoded, fits, is_close_reply, reply_frame, with_pong, Out, appended, move_reply, Concluded, conclude}
 use Rattle.session.specs.Session.{is_server, is_client, is_active, is_peer_closed, is_terminated, with_state, with_incoming, with_reply, with_held}
@@ -52,6 +48,11 @@ fresh g state = record { settings = g; state = state; refusal = 0; incoming = no
 abbrev pub role_number : Role → ℕ
 role_number Server = 0
 role_number Client = 1
+
+-- an answer to a sending call or to a take, or to the making of a session, and the session that is handed back
+pub record Handed : Type 0 where
+  pub sent : Sent
+  pub session : Session
 
 abbrev pub handed : Sent → Session → Handed
 handed a s = record { sent = a; session = s }
@@ -152,13 +153,13 @@ ping_call s p masks output = send_frame s s.state (Control PingFrame) (ltb 125 (
 
 -- "A close is empty, or a code and a reason, together at most 125 bytes; the code goes out as given" "Close leads to ClosedByUs only when
 -- it was put out"
-abbrev pub closing_bytes : Closing → List ℕ → List ℕ
-closing_bytes Empty reason = []
-closing_bytes (Code n) reason = close_bytes n reason
+abbrev pub closing_bytes : Option ℕ → List ℕ → List ℕ
+closing_bytes None reason = []
+closing_bytes (Some n) reason = close_bytes n reason
 
-unfoldable pub close_call : Session → Closing → List ℕ → Masks → List ℕ → Sending
-close_call s closing reason masks output =
-    let p : List ℕ = closing_bytes closing reason in
+unfoldable pub close_call : Session → Option ℕ → List ℕ → Masks → List ℕ → Sending
+close_call s code reason masks output =
+    let p : List ℕ = closing_bytes code reason in
     send_frame s 1 (Control CloseFrame) (either (ltb 125 (length p)) (not (is_whole (progress_after 0 (drop 2 p))))) p masks output
 
 -- "The caller's pong becomes the waiting reply, then moves if it fits; it is not refused with 19."

@@ -4,6 +4,9 @@
 
 pub mod new;
 pub mod range;
+pub mod refusal;
+
+use refusal::Refusal;
 
 // Which end a session is. In a session it is a number.
 #[derive(Clone, Copy)]
@@ -27,6 +30,9 @@ pub const CLOSE_ACKNOWLEDGED: u8 = 3;
 
 pub const TERMINATED: u8 = 4;
 
+// Kept: role, state, progress and refusal are numbers, since number 20 speaks of sessions whose numbers name none (document 01).
+// Kept: bytes stand in arrays with a count beside them (`kept` and `header`, `length` and `payload`), since memory is fixed, and number 20
+// speaks of counts beyond the arrays.
 // The wide fields of a struct stand before the narrow ones: what lies between them would be copied with each session.
 #[derive(Clone, Copy)]
 pub struct Settings {
@@ -45,7 +51,8 @@ pub struct Incoming {
     pub kept: usize,
     // payload bytes counted
     pub counted: usize,
-    // the bytes of the fragments so far, where a fragmented message is begun
+    // the bytes of the fragments so far, where a fragmented message is begun. Kept: beside `begun`, since number 20 looks at it with no
+    // message begun too
     pub fragments: usize,
     // the header's bytes
     pub header: [u8; 14],
@@ -83,7 +90,7 @@ pub struct Session {
     pub held: usize,
 }
 
-// An answer of the reader.
+// An answer of the reader. Kept: a refusal has its number (document 01, "Where each language form goes").
 #[derive(Clone, Copy)]
 pub enum Answer {
     More,
@@ -104,25 +111,11 @@ pub struct Turn {
     pub session: Session,
 }
 
-// An answer to a sending call or to a take.
-#[derive(Clone, Copy)]
-pub enum Sent {
-    Done,
-    Refused(u8),
-}
-
 // What a sending call or a take gives beside the output store.
 #[derive(Clone, Copy)]
 pub struct Handed {
-    pub sent: Sent,
+    pub sent: Result<(), Refusal>,
     pub session: Session,
-}
-
-// What a close carries: nothing, or a code before the reason.
-#[derive(Clone, Copy)]
-pub enum Closing {
-    Empty,
-    Code(u16),
 }
 
 // The two masks of a call: its first frame takes the first.

@@ -1,14 +1,17 @@
 // How a session is made.
 ghost use Rattle.std.specs.Prelude.{◌≡◌};
-ghost use Rattle.session.specs.Calls.{no_incoming, empty_reply, fresh, new_call, role_number};
+ghost use Rattle.session.specs.Calls.{no_incoming, empty_reply, fresh, handed, new_call, role_number};
+ghost use Rattle.session.specs.Refusals.{sent_of};
 
-use crate::{Handed, Incoming, Reply, Role, Sent, Session, Settings, Waiting};
+use crate::refusal::Refusal;
+use crate::{Handed, Incoming, Reply, Role, Session, Settings, Waiting};
 
+#[tactic(auto, unfolding(crate::specs::Calls::no_incoming))]
 fn no_incoming() -> Incoming
     ensures { result ≡ no_incoming }
 {
     Incoming {
-        header: [0u8; 14],
+        header: [0; 14],
         kept: 0,
         counted: 0,
         begun: false,
@@ -18,53 +21,57 @@ fn no_incoming() -> Incoming
     }
 }
 
+#[tactic(auto, unfolding(crate::specs::Calls::empty_reply))]
 fn empty_reply() -> Reply
     ensures { result ≡ empty_reply }
 {
     Reply {
         waiting: Waiting::Nothing,
         length: 0,
-        payload: [0u8; 125],
+        payload: [0; 125],
     }
 }
 
+#[tactic(auto, unfolding(crate::specs::Calls::fresh))]
 fn fresh(settings: Settings, state: u8) -> Session
     ensures { result ≡ fresh settings state }
 {
-    let incoming = no_incoming();
-    let reply = empty_reply();
     Session {
         settings,
         state,
         refusal: 0,
-        incoming,
-        reply,
+        incoming: no_incoming(),
+        reply: empty_reply(),
         held: 0,
     }
 }
 
-fn role_number(role: Role) -> u8
-    ensures { result ≡ role_number role }
-{
-    match role {
-        Role::Server => crate::SERVER,
-        Role::Client => crate::CLIENT,
+// The number that a session has for its role.
+impl From<Role> for u8 {
+    ghost from_gives = { λ role number. number ≡ role_number role };
+
+    fn from(role: Role) -> u8 {
+        match role {
+            Role::Server => crate::SERVER,
+            Role::Client => crate::CLIENT,
+        }
     }
 }
 
-// A session with these limits, Active; or 20 beside one that is Terminated, since no enum can hold a session's arrays.
+// A session with these limits, Active; or a refusal beside one that is Terminated.
+#[tactic(auto, unfolding(crate::specs::Calls::new_call))]
 pub fn new(role: Role, frame: usize, message: usize, unmasked: bool) -> Handed
-    ensures { result ≡ new_call role frame message unmasked }
+    ensures { handed (sent_of result.sent) result.session ≡ new_call role frame message unmasked }
 {
     if crate::range::limits_hold(frame, message) {
         let settings = Settings {
-            role: role_number(role),
+            role: u8::from(role),
             frame,
             message,
             unmasked,
         };
         return Handed {
-            sent: Sent::Done,
+            sent: Ok(()),
             session: fresh(settings, crate::ACTIVE),
         };
     }
@@ -75,7 +82,7 @@ pub fn new(role: Role, frame: usize, message: usize, unmasked: bool) -> Handed
         unmasked: false,
     };
     Handed {
-        sent: Sent::Refused(20),
+        sent: Err(Refusal::OutOfRange),
         session: fresh(nothing, crate::TERMINATED),
     }
 }

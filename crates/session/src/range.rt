@@ -1,11 +1,13 @@
 // Which sessions are in range: what number 20 tests.
-ghost use Rattle.std.specs.Prelude.{◌≡◌, not, ◌≤◌, ◌<◌, eqb, leb};
+ghost use Rattle.std.specs.Prelude.{◌≡◌, not, eqb, leb};
 ghost use Rattle.base.specs.Tests.{both, either, first_of};
 ghost use Rattle.frame.specs.Header.{size_by, parsed};
 ghost use Rattle.session.specs.Frames.{is_reserved, header_tests, kept};
-ghost use Rattle.session.specs.Range.{limits_hold, settings_hold, numbers_hold, header_holds, count_holds, incoming_holds, waits, reply_holds, range_of};
+ghost use Rattle.session.specs.Range.{limits_hold, settings_hold, numbers_hold, header_holds, count_holds, incoming_holds, waits, reply_holds, in_range};
+ghost use Rattle.session.specs.Refusals.{numbered};
 
-use crate::{Incoming, Settings, Waiting};
+use crate::refusal::Refusal;
+use crate::{Incoming, Reply, Session, Settings, Waiting};
 use coding::opcode::OpCode;
 use frame::header::{FrameHeader, Parsed};
 
@@ -13,209 +15,128 @@ pub const MOST_FRAME: usize = 16777216;
 
 pub const MOST_MESSAGE: usize = 67108864;
 
+#[tactic(auto, unfolding(crate::specs::Range::limits_hold))]
 pub(crate) fn limits_hold(frame: usize, message: usize) -> bool
     ensures { result ≡ limits_hold frame message }
 {
-    if frame <= MOST_FRAME {
-        if message <= MOST_MESSAGE {
-            return true;
-        }
-    }
-    false
+    frame <= MOST_FRAME && message <= MOST_MESSAGE
 }
 
-fn settings_hold(settings: Settings) -> bool
-    ensures { result ≡ settings_hold settings }
+#[tactic(auto, unfolding(crate::specs::Range::settings_hold))]
+fn settings_hold(settings: &Settings) -> bool
+    ensures { result ≡ settings_hold settings.now }
 {
-    if limits_hold(settings.frame, settings.message) {
-        if settings.role <= crate::CLIENT {
-            return true;
-        }
-    }
-    false
+    limits_hold(settings.frame, settings.message) && settings.role <= crate::CLIENT
 }
 
+#[tactic(auto, unfolding(crate::specs::Range::numbers_hold))]
 fn numbers_hold(state: u8, refusal: u8) -> bool
     ensures { result ≡ numbers_hold state refusal }
 {
-    if crate::TERMINATED < state {
-        return false;
-    }
-    match refusal {
-        0 | 3..=15 => true,
-        _ => false,
-    }
+    state <= crate::TERMINATED && matches!(refusal, 0 | 3..=15)
 }
 
 fn is_reserved(opcode: OpCode) -> bool
     ensures { result ≡ is_reserved opcode }
 {
-    match opcode {
-        OpCode::Reserved(_) => true,
-        OpCode::Data(_) => false,
-        OpCode::Control(_) => false,
-    }
+    matches!(opcode, OpCode::Reserved(_))
 }
 
-// The number that a whole header is refused with at its last byte, or 0.
-pub fn header_number(settings: Settings, header: FrameHeader) -> u8
-    ensures { result ≡ first_of (header_tests settings header) }
+// Whether a whole header is refused at its last byte.
+#[tactic(auto, unfolding(base::specs::Tests::first_of, crate::specs::Frames::header_tests))]
+pub fn header_verdict(settings: &Settings, header: FrameHeader) -> Result<(), Refusal>
+    ensures { numbered result ≡ first_of (header_tests settings.now header) }
 {
-    let opcode = header.opcode;
-    if is_reserved(opcode) {
-        return 3;
+    if is_reserved(header.opcode) {
+        return Err(Refusal::ReservedOpcode);
     }
     if (settings.frame as u64) < header.length {
-        return 4;
+        return Err(Refusal::FrameTooLong);
     }
-    0
+    Ok(())
 }
 
 // The kept header has no more bytes than it should.
 fn kept_holds(second: u8, kept: usize) -> bool
     ensures { result ≡ either (leb kept 1) (leb kept (size_by second)) }
 {
-    if kept <= 1 {
-        return true;
-    }
-    if kept <= frame::header::size_by(second) {
-        return true;
-    }
-    false
+    kept <= 1 || kept <= frame::header::size_by(second)
 }
 
-// A whole header's frame: no more payload is counted than it has, and no number would have refused it at its header.
-fn frame_holds(settings: Settings, refusal: u8, header: FrameHeader, counted: usize) -> bool
-    ensures { result ≡ both (either (not (eqb refusal 0)) (eqb (first_of (header_tests settings header)) 0)) (leb counted header.length) }
+// The header that is kept, read: more bytes are kept than there are only in a session that is out of range.
+pub fn kept_header(incoming: &Incoming) -> Parsed
+    ensures { result ≡ parsed (kept incoming.now) }
 {
-    if header.length < (counted as u64) {
-        return false;
-    }
-    if refusal != 0 {
-        return true;
-    }
-    if header_number(settings, header) == 0 {
-        return true;
-    }
-    false
+    frame::header::parse(&incoming.header[..incoming.kept.min(14)])
 }
 
-// How many bytes of the header there are to be read: more are kept than there are only in a session that is out of range.
-fn kept_bytes(kept: usize) -> usize
-    ensures { (result ≤ 14) × (kept ≤ 14 → result ≡ kept) × (14 < kept → result ≡ 14) }
+// No more header bytes are kept than the header has, and no number names a whole one that is not refused.
+#[tactic(auto, unfolding(crate::specs::Range::header_holds, crate::specs::Frames::header_whole, crate::specs::Frames::frame, frame::specs::Header::parsed))]
+fn header_holds(session: &Session, header: Parsed) -> bool
+    requires { header ≡ parsed (kept session.now.incoming) }
+    ensures { result ≡ header_holds session.now.settings session.now.refusal session.now.incoming }
 {
-    if 14 < kept {
-        return 14;
-    }
-    kept
-}
-
-// The header that is kept, read.
-pub fn kept_header(incoming: Incoming) -> Parsed
-    ensures { result ≡ parsed (kept incoming) }
-{
-    let bytes = incoming.header;
-    let n = kept_bytes(incoming.kept);
-    frame::header::parse(&bytes[..n])
-}
-
-fn header_and_count_hold(
-    settings: Settings,
-    refusal: u8,
-    incoming: Incoming,
-    header: Parsed,
-) -> bool
-    requires { header ≡ parsed (kept incoming) }
-    ensures { result ≡ both (header_holds settings refusal incoming) (count_holds incoming) }
-{
-    let bytes = incoming.header;
-    if kept_holds(bytes[1], incoming.kept) {
-        match header {
-            Parsed::Lacking => {
-                if incoming.counted == 0 {
-                    return true;
-                }
-                return false;
-            }
+    kept_holds(session.incoming.header[1], session.incoming.kept)
+        && match header {
+            Parsed::Lacking => true,
             Parsed::Whole(whole) => {
-                return frame_holds(settings, refusal, whole, incoming.counted);
+                session.refusal != 0 || header_verdict(&session.settings, whole).is_ok()
             }
         }
-    }
-    false
 }
 
-fn incoming_holds(settings: Settings, refusal: u8, incoming: Incoming, header: Parsed) -> bool
-    requires { header ≡ parsed (kept incoming) }
-    ensures { result ≡ incoming_holds settings refusal incoming }
+// No more payload is counted than the frame has.
+#[tactic(auto, unfolding(crate::specs::Range::count_holds, crate::specs::Frames::header_whole, crate::specs::Frames::frame, frame::specs::Header::parsed))]
+fn count_holds(incoming: &Incoming, header: Parsed) -> bool
+    requires { header ≡ parsed (kept incoming.now) }
+    ensures { result ≡ count_holds incoming.now }
 {
-    if utf8::BAD < incoming.progress {
-        return false;
+    match header {
+        Parsed::Lacking => incoming.counted == 0,
+        Parsed::Whole(whole) => incoming.counted as u64 <= whole.length,
     }
-    if settings.message < incoming.fragments {
-        return false;
-    }
-    header_and_count_hold(settings, refusal, incoming, header)
+}
+
+#[tactic(auto, unfolding(crate::specs::Range::incoming_holds))]
+fn incoming_holds(session: &Session, header: Parsed) -> bool
+    requires { header ≡ parsed (kept session.now.incoming) }
+    ensures { result ≡ incoming_holds session.now.settings session.now.refusal session.now.incoming }
+{
+    header_holds(session, header)
+        && count_holds(&session.incoming, header)
+        && session.incoming.progress <= utf8::BAD
+        && session.incoming.fragments <= session.settings.message
 }
 
 // Whether a reply waits.
 pub fn waits(waiting: Waiting) -> bool
     ensures { result ≡ waits waiting }
 {
-    match waiting {
-        Waiting::Nothing => false,
-        Waiting::Pong => true,
-        Waiting::Close => true,
-    }
+    matches!(waiting, Waiting::Pong | Waiting::Close)
 }
 
-fn reply_holds(waiting: Waiting, length: usize) -> bool
-    ensures { result ≡ reply_holds waiting length }
+#[tactic(auto, unfolding(crate::specs::Range::reply_holds))]
+fn reply_holds(reply: &Reply) -> bool
+    ensures { result ≡ reply_holds reply.now.waiting reply.now.length }
 {
-    if length <= 125 {
-        return true;
-    }
-    if waits(waiting) {
-        return false;
-    }
-    true
+    reply.length <= 125 || !waits(reply.waiting)
 }
 
-// Whether the numbers of a session are in range. It takes the session's parts, since no payload is looked at, and the kept header beside
-// them, since who asks may want it too.
-pub fn in_range_by(
-    settings: Settings,
-    state: u8,
-    refusal: u8,
-    incoming: Incoming,
-    header: Parsed,
-    waiting: Waiting,
-    length: usize,
-) -> bool
-    requires { header ≡ parsed (kept incoming) }
-    ensures { result ≡ range_of settings state refusal incoming waiting length }
+// Whether a session's numbers are in range, for who has read the kept header already.
+#[tactic(auto, unfolding(crate::specs::Range::in_range, crate::specs::Range::range_of))]
+pub fn in_range_by(session: &Session, header: Parsed) -> bool
+    requires { header ≡ parsed (kept session.now.incoming) }
+    ensures { result ≡ in_range session.now }
 {
-    if settings_hold(settings) {
-        if numbers_hold(state, refusal) {
-            if reply_holds(waiting, length) {
-                return incoming_holds(settings, refusal, incoming, header);
-            }
-        }
-    }
-    false
+    settings_hold(&session.settings)
+        && numbers_hold(session.state, session.refusal)
+        && reply_holds(&session.reply)
+        && incoming_holds(session, header)
 }
 
-// The same of the parts alone.
-pub fn in_range(
-    settings: Settings,
-    state: u8,
-    refusal: u8,
-    incoming: Incoming,
-    waiting: Waiting,
-    length: usize,
-) -> bool
-    ensures { result ≡ range_of settings state refusal incoming waiting length }
+// Whether a session's numbers are in range.
+pub fn in_range(session: &Session) -> bool
+    ensures { result ≡ in_range session.now }
 {
-    let header = kept_header(incoming);
-    in_range_by(settings, state, refusal, incoming, header, waiting, length)
+    in_range_by(session, kept_header(&session.incoming))
 }
