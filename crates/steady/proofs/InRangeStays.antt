@@ -7,6 +7,7 @@ use native.Mathlib.Omega.{arith}
 use lib.Dec.{eqb, ltb}
 use lib.ListN.{length, drop}
 use borrow.Author.Tests.{eqb-true}
+use Rattle.std.specs.Prelude.{Option}
 use Rattle.base.specs.Table.{pick}
 use Rattle.base.specs.Tests.{both, either, ◌when◌, first_of}
 use Rattle.base.proofs.Choice.{by_test}
@@ -17,17 +18,14 @@ use Rattle.coding.specs.declared.opcode.OpCode.{OpCode}
 use Rattle.coding.specs.declared.opcode.OpCode.TheVariants.{Data, Control}
 use Rattle.session.specs.declared.Answer.{Answer}
 use Rattle.session.specs.declared.Answer.TheVariants.{More, Text, Binary, Ping, Pong, Close, Closed, Refused}
-use Rattle.session.specs.declared.Closing.{Closing}
-use Rattle.session.specs.declared.Handed.{Handed}
 use Rattle.session.specs.declared.Masks.{Masks}
 use Rattle.session.specs.declared.Role.{Role}
-use Rattle.session.specs.declared.Sent.{Sent}
-use Rattle.session.specs.declared.Sent.TheVariants.{Done, Refused as NotSent}
 use Rattle.session.specs.declared.Session.{Session}
 use Rattle.session.specs.declared.Turn.{Turn}
-use Rattle.session.specs.Calls.{no_incoming, empty_reply, fresh, new_call, read_tests, flagged, take_bytes, read_on, read_call, send_tests, send_frame, text_call, binary_call, ping_call, pong_call, closing_bytes, close_call, take_tests, take_call}
+use Rattle.session.specs.Calls.{Handed, no_incoming, empty_reply, fresh, new_call, read_tests, flagged, take_bytes, read_on, read_call, send_tests, send_frame, text_call, binary_call, ping_call, pong_call, closing_bytes, close_call, take_tests, take_call}
 use Rattle.session.specs.Range.{limits_hold, in_range}
 use Rattle.session.specs.Reading.{World, world, At, after, settle, feed, is_more}
+use Rattle.session.specs.Refusals.{Sent, Done, Refused as NotSent}
 use Rattle.session.specs.Replies.{encoded, fits, with_pong, Out, appended, move_reply, Concluded, conclude}
 use Rattle.session.specs.Session.{is_server, is_client, is_peer_closed, with_state, with_incoming, with_reply}
 use Rattle.utf8.specs.Progress.{progress_after, is_whole}
@@ -256,23 +254,23 @@ module _ (s : Session) (p : List ℕ) (masks : Masks) (output : List ℕ) where
     pub shape_stays_pong : Shaped (pong_call s p masks output).handed.session
     shape_stays_pong = pong_keeps s p masks output h
 
-module _ (s : Session) (closing : Closing) (reason : List ℕ) (masks : Masks) (output : List ℕ) where
+module _ (s : Session) (code : Option ℕ) (reason : List ℕ) (masks : Masks) (output : List ℕ) where
   abbrev close_bad : Bool
-  close_bad = either (ltb 125 (length (closing_bytes closing reason))) (not (is_whole (progress_after 0 (drop 2 (closing_bytes closing reason)))))
+  close_bad = either (ltb 125 (length (closing_bytes code reason))) (not (is_whole (progress_after 0 (drop 2 (closing_bytes code reason)))))
 
-  close_steady : in_range s ≡ true → SteadyHanded (close_call s closing reason masks output).handed
+  close_steady : in_range s ≡ true → SteadyHanded (close_call s code reason masks output).handed
   unfolding close_call
-  close_steady e = frame-steady s 1 (Control CloseFrame) close_bad (closing_bytes closing reason) masks output e (omega arith)
+  close_steady e = frame-steady s 1 (Control CloseFrame) close_bad (closing_bytes code reason) masks output e (omega arith)
 
-  pub range_stays_close : in_range s ≡ true → in_range (close_call s closing reason masks output).handed.session ≡ true
+  pub range_stays_close : in_range s ≡ true → in_range (close_call s code reason masks output).handed.session ≡ true
   range_stays_close e = (close_steady e).range
 
-  pub never_twenty_close : in_range s ≡ true → (close_call s closing reason masks output).handed.sent ≡ NotSent 20 → ⊥
-  never_twenty_close e = never_twenty (close_call s closing reason masks output).handed (close_steady e)
+  pub never_twenty_close : in_range s ≡ true → (close_call s code reason masks output).handed.sent ≡ NotSent 20 → ⊥
+  never_twenty_close e = never_twenty (close_call s code reason masks output).handed (close_steady e)
 
-  pub shape_stays_close : Shaped s → Shaped (close_call s closing reason masks output).handed.session
+  pub shape_stays_close : Shaped s → Shaped (close_call s code reason masks output).handed.session
   unfolding close_call
-  shape_stays_close h = frame-shaped s 1 (Control CloseFrame) close_bad (closing_bytes closing reason) masks output h
+  shape_stays_close h = frame-shaped s 1 (Control CloseFrame) close_bad (closing_bytes code reason) masks output h
 
 -- ---- taking what is held
 module _ (s : Session) (n : ℕ) (output : List ℕ) where

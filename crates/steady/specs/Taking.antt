@@ -5,10 +5,9 @@ use Rattle.base.specs.Tests.{both, either}
 use Rattle.session.specs.declared.Answer.{Answer}
 use Rattle.session.specs.declared.Answer.TheVariants.{More, Text, Binary, Ping, Pong, Close, Closed, Refused}
 use Rattle.session.specs.declared.Masks.{Masks}
-use Rattle.session.specs.declared.Sent.{Sent}
-use Rattle.session.specs.declared.Sent.TheVariants.{Done, Refused as NotSent}
 use Rattle.session.specs.declared.Session.{Session}
 use Rattle.session.specs.Calls.{empty_reply, Read, turn, read, Sending, take_call}
+use Rattle.session.specs.Refusals.{Sent, Done, Refused as NotSent}
 use Rattle.session.specs.Session.{is_server, with_reply, with_held}
 use Rattle.steady.specs.Cutting.{is_event, Seen, Run, call_at, read_once}
 
