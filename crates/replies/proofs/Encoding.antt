@@ -48,40 +48,27 @@ pub fits_by : (held : ℕ) (output : List ℕ) (client : Bool) (op : OpCode) (ma
 unfolding fits
 fits_by held output client op mask p four = ap (λ (n : ℕ). leb n (length output - held)) (length-encoded client op mask p four)
 
--- a payload in two parts, of which the first has n bytes
-pub fits-by_parts : (held : ℕ) (output : List ℕ) (client : Bool) (op : OpCode) (mask s t : List ℕ) {n : ℕ} → length mask ≡ 4 → length s ≡ n
-    → fits held output (encoded client op mask (s ++ t)) ≡ leb (header_size client (n + length t) + (n + length t)) (length output - held)
-fits-by_parts held output client op mask s t four first =
-    fits_by held output client op mask (s ++ t) four ∙ rw (length-append s t, first)
-
--- ---- a header, and a payload in two parts of which the first has n bytes, laid one after the other
-module _ (client : Bool) (op : OpCode) (mask s t : List ℕ) (four : length mask ≡ 4) {n : ℕ} (first : length s ≡ n) {h : FrameHeader} (header : h ≡ frame_header client op (n + length t)) where
-  whole : n + length t ≡ length (s ++ t)
-  whole = ap (λ (k : ℕ). k + length t) (sym first) ∙ sym (length-append s t)
-
-  pub header-room : header_size h.masked h.length ≡ header_size client (n + length t)
+-- ---- a header, and a payload in two parts, laid one after the other
+module _ (client : Bool) (op : OpCode) (mask s t : List ℕ) (four : length mask ≡ 4) {h : FrameHeader} (header : h ≡ frame_header client op (length s + length t)) (at : ℕ) {behind : ℕ} (place : behind ≡ at + header_size h.masked h.length) where
+  pub behind-frame : behind + (length s + length t) ≡ at + length (encoded client op mask (s ++ t))
   unfolding frame_header
-  header-room = ap (λ (x : FrameHeader). header_size x.masked x.length) header
+  behind-frame =
+      let size : header_size h.masked h.length ≡ header_size client (length s + length t) = rw header in
+      let whole : length (encoded client op mask (s ++ t)) ≡ header_size client (length s + length t) + (length s + length t) =
+      length-encoded client op mask (s ++ t) four ∙ rw (length-append s t) in
+      omega arith
 
-  pub behind-frame : (at : ℕ) {behind : ℕ} → behind ≡ at + header_size h.masked h.length
-      → behind + n + length t ≡ at + length (encoded client op mask (s ++ t))
-  behind-frame at p =
-      omega (arith, header-room, whole, ap (header_size client) whole, length-encoded client op mask (s ++ t) four)
-
-  pub laid-frame : (d : List ℕ) (at : ℕ) {behind : ℕ} {x y z : List ℕ} → behind ≡ at + header_size h.masked h.length
-      → x ≡ laid d at (header_bytes h mask) → y ≡ laid x behind (carried client mask 0 s) → z ≡ laid y (behind + n) (carried client mask n t)
-      → z ≡ laid d at (encoded client op mask (s ++ t))
+  pub laid-frame : (d : List ℕ) {x y z : List ℕ} → x ≡ laid d at (header_bytes h mask) → y ≡ laid x behind (carried client mask 0 s)
+      → z ≡ laid y (behind + length s) (carried client mask (length s) t) → z ≡ laid d at (encoded client op mask (s ++ t))
   unfolding encoded
-  laid-frame d at {behind} {x} {y} {z} p q u v =
+  laid-frame d {x} {y} {z} q u v =
       let b : List ℕ = header_bytes h mask in
-      let e : header_bytes (frame_header client op (length (s ++ t))) mask ≡ b =
-      ap (λ (k : ℕ). header_bytes (frame_header client op k) mask) (sym whole) ∙ ap (λ (x : FrameHeader). header_bytes x mask) (sym header) in
-      let place : at + length b ≡ behind = ap (λ (k : ℕ). at + k) (length-header_bytes h mask four) ∙ sym p in
-      let size : length (carried client mask 0 s) ≡ n = length-carried client mask 0 s ∙ first in
-      let parts : laid d at (b ++ (carried client mask 0 s ++ carried client mask n t))
-      ≡ laid (laid (laid d at b) (at + length b) (carried client mask 0 s)) (at + length b + length (carried client mask 0 s)) (carried client mask n t) =
-      laid-append d at b (carried client mask 0 s ++ carried client mask n t)
-      ∙ laid-append (laid d at b) (at + length b) (carried client mask 0 s) (carried client mask n t) in
-      let laid-last : laid (laid (laid d at b) (at + length b) (carried client mask 0 s)) (at + length b + length (carried client mask 0 s)) (carried client mask n t) ≡ z =
-      rw (place, size, ← q, ← u) (sym v) in
-      rw (carried_append client mask s t, first, e) (sym (parts ∙ laid-last))
+      let e : header_bytes (frame_header client op (length (s ++ t))) mask ≡ b = rw (length-append s t, ← header) in
+      let after_header : at + length b ≡ behind = ap (λ (k : ℕ). at + k) (length-header_bytes h mask four) ∙ sym place in
+      let parts : laid d at (b ++ (carried client mask 0 s ++ carried client mask (length s) t))
+      ≡ laid (laid (laid d at b) (at + length b) (carried client mask 0 s)) (at + length b + length (carried client mask 0 s)) (carried client mask (length s) t) =
+      laid-append d at b (carried client mask 0 s ++ carried client mask (length s) t)
+      ∙ laid-append (laid d at b) (at + length b) (carried client mask 0 s) (carried client mask (length s) t) in
+      let laid-last : laid (laid (laid d at b) (at + length b) (carried client mask 0 s)) (at + length b + length (carried client mask 0 s)) (carried client mask (length s) t) ≡ z =
+      rw (after_header, length-carried client mask 0 s, ← q, ← u) (sym v) in
+      rw (carried_append client mask s t, e) (sym (parts ∙ laid-last))

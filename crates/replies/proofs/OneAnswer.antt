@@ -1,7 +1,12 @@
 -- Any two results that meet a promise are equal, for each public function.
-use mathlib.Core.Path.{sym, ap, ◌∙◌}
+use mathlib.Core.Path.{◌≡◌, sym, ap, ◌∙◌}
+use mathlib.Core.List.{List}
+use Prim.Native.Nat.{ℕ}
+use contract.Lifetimes.{Lfts}
+use denote.Triple.Clauses.{AtExit}
+use borrow.Fn.Kinds.{ParamKind, ResultKind, Dens, res_t, ended_of, Out}
 use Rattle.base.proofs.Promise.{OneAnswer, OneStore}
-use Rattle.replies.specs.Moves.{Moving}
+use Rattle.session.specs.Replies.{Out as Left}
 use Rattle.replies.proofs.frames.fits_in.Kinds as fits_in
 use Rattle.replies.proofs.frames.fits_in.Reads as fits-in-reads
 use Rattle.replies.proofs.frames.put_frame.Kinds as put-frame
@@ -17,32 +22,38 @@ use Rattle.replies.proofs.reply.reply_fits.Reads as reply-fits-reads
 use Rattle.replies.proofs.reply.with_pong.Kinds as with-pong
 use Rattle.replies.proofs.reply.with_pong.Reads as with-pong-reads
 
+-- one value of what is lent, which `seen` finds among the arguments at exit: what `OneStore` says of bytes, of any type
+abbrev OneLent : {A : Type 0} (n : ℕ) (ps : List (ParamKind n)) (r : ResultKind n) → ((κs : Lfts n) → AtExit (ended_of n ps r) κs → A) → Out n ps r → Type 0
+OneLent n ps r seen P =
+    (κs : Lfts n) (a : Dens κs ps) (z z' : (res_t r κs).Denot) (e e' : AtExit (ended_of n ps r) κs)
+    → P κs a z e → P κs a z' e' → seen κs e ≡ seen κs e'
+
 -- ---- a frame: the place behind it, and the output store
 pub fits-in_one : OneAnswer 0 fits_in.ps fits_in.r fits-in-reads.Post
 fits-in_one κs a z z' e e' p q = p ∙ sym q
 
-pub put_frame_one : OneAnswer 2 put-frame.ps put-frame.r put-frame-reads.Post
+pub put_frame_one : OneAnswer 3 put-frame.ps put-frame.r put-frame-reads.Post
 put_frame_one κs a z z' e e' p q = p.0 ∙ sym q.0
 
-pub put_frame_one_store : OneStore 2 put-frame.ps put-frame.r (λ κs e. e.1.1.1.1.1.1.0.now) put-frame-reads.Post
+pub put_frame_one_store : OneStore 3 put-frame.ps put-frame.r (λ κs e. e.1.1.1.1.1.0.now) put-frame-reads.Post
 put_frame_one_store κs a z z' e e' p q = p.1 ∙ sym q.1
 
 -- ---- the waiting reply
-pub make_reply_one : OneAnswer 1 make-reply.ps make-reply.r make-reply-reads.Post
+pub make_reply_one : OneLent 2 make-reply.ps make-reply.r (λ κs e. e.0.now) make-reply-reads.Post
 make_reply_one κs a z z' e e' p q = p ∙ sym q
 
 pub is_close_one : OneAnswer 0 is-close.ps is-close.r is-close-reads.Post
 is_close_one κs a z z' e e' p q = p ∙ sym q
 
-pub with_pong_one : OneAnswer 1 with-pong.ps with-pong.r with-pong-reads.Post
+pub with_pong_one : OneLent 2 with-pong.ps with-pong.r (λ κs e. e.0.now) with-pong-reads.Post
 with_pong_one κs a z z' e e' p q = p ∙ sym q
 
-pub reply_fits_one : OneAnswer 0 reply_fits.ps reply_fits.r reply-fits-reads.Post
+pub reply_fits_one : OneAnswer 1 reply_fits.ps reply_fits.r reply-fits-reads.Post
 reply_fits_one κs a z z' e e' p q = p ∙ sym q
 
--- the two parts that it gives, and the output store
-pub move_reply_one : OneAnswer 1 move-reply.ps move-reply.r move-reply-reads.Post
-move_reply_one κs a z z' e e' p q = ap (λ (x : Moving). record { reply = x.reply; held = x.held }) (p ∙ sym q)
+-- the session that is left, and the output store
+pub move_reply_one : OneLent 2 move-reply.ps move-reply.r (λ κs e. e.0.now) move-reply-reads.Post
+move_reply_one κs a z z' e e' p q = ap (λ (x : Left). x.session) (p ∙ sym q)
 
-pub move_reply_one_store : OneStore 1 move-reply.ps move-reply.r (λ κs e. e.1.1.1.1.0.now) move-reply-reads.Post
-move_reply_one_store κs a z z' e e' p q = ap (λ (x : Moving). x.output) (p ∙ sym q)
+pub move_reply_one_store : OneStore 2 move-reply.ps move-reply.r (λ κs e. e.1.1.0.now) move-reply-reads.Post
+move_reply_one_store κs a z z' e e' p q = ap (λ (x : Left). x.output) (p ∙ sym q)

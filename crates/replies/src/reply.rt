@@ -2,56 +2,37 @@
 ghost use Rattle.std.specs.Prelude.{◌≡◌, true, ◌+◌, ◌-◌, ◌≤◌, leb, length};
 ghost use Rattle.frame.specs.Header.{header_size};
 ghost use Rattle.session.specs.Range.{waits};
-ghost use Rattle.session.specs.Replies.{reply_of, with_pong, no_reply, reply_code, is_close_reply};
-ghost use Rattle.replies.specs.Moves.{moving, move_of};
+ghost use Rattle.session.specs.Replies.{reply_of, with_pong, reply_code, is_close_reply, out, move_reply};
+ghost use Rattle.session.specs.Session.{is_client};
 
 use coding::opcode::{Control, OpCode};
-use session::{Reply, Waiting};
+use session::{Reply, Session, Waiting};
 
 // A reply with this payload in the place of what waited.
-pub fn make_reply(reply: Reply, waiting: Waiting, payload: &[u8]) -> Reply
+#[tactic(auto, unfolding(session::specs::Replies::reply_of))]
+pub fn make_reply(reply: &mut Reply, waiting: Waiting, payload: &[u8])
     requires { length payload.now ≤ 125 }
-    ensures { result ≡ reply_of reply waiting payload.now }
+    ensures { reply.new ≡ reply_of reply.old waiting payload.now }
 {
-    let mut bytes = reply.payload;
-    stores::copy(payload, &mut bytes, 0);
-    Reply {
-        waiting,
-        length: payload.len(),
-        payload: bytes,
-    }
+    reply.waiting = waiting;
+    reply.length = payload.len();
+    stores::copy(payload, &mut reply.payload, 0);
 }
 
 pub fn is_close(waiting: Waiting) -> bool
     ensures { result ≡ is_close_reply waiting }
 {
-    match waiting {
-        Waiting::Nothing => false,
-        Waiting::Pong => false,
-        Waiting::Close => true,
-    }
+    matches!(waiting, Waiting::Close)
 }
 
 // A pong takes the place of a waiting pong, and not that of a waiting close.
-pub fn with_pong(reply: Reply, payload: &[u8]) -> Reply
+#[tactic(auto, unfolding(session::specs::Replies::with_pong))]
+pub fn with_pong(reply: &mut Reply, payload: &[u8])
     requires { length payload.now ≤ 125 }
-    ensures { result ≡ with_pong reply payload.now }
+    ensures { reply.new ≡ with_pong reply.old payload.now }
 {
-    let waiting = reply.waiting;
-    if is_close(waiting) {
-        return reply;
-    }
-    make_reply(reply, Waiting::Pong, payload)
-}
-
-fn no_reply(reply: Reply) -> Reply
-    ensures { result ≡ no_reply reply }
-{
-    let payload = reply.payload;
-    Reply {
-        waiting: Waiting::Nothing,
-        length: 0,
-        payload,
+    if !is_close(reply.waiting) {
+        make_reply(reply, Waiting::Pong, payload);
     }
 }
 
@@ -59,59 +40,44 @@ fn reply_code(waiting: Waiting) -> OpCode
     ensures { result ≡ reply_code waiting }
 {
     match waiting {
-        Waiting::Nothing => OpCode::Control(Control::Pong),
-        Waiting::Pong => OpCode::Control(Control::Pong),
+        Waiting::Nothing | Waiting::Pong => OpCode::Control(Control::Pong),
         Waiting::Close => OpCode::Control(Control::Close),
     }
 }
 
-// Whether the frame of a waiting reply with a payload of `count` bytes fits behind the held bytes.
-pub fn reply_fits(client: bool, count: usize, held: usize, size: usize) -> bool
-    requires { held ≤ size }
-    ensures { result ≡ leb (header_size client count + count) (size - held) }
+// Whether the waiting reply's frame fits behind the held bytes of an output store of this size.
+pub fn reply_fits(session: &Session, size: usize) -> bool
+    requires { session.now.held ≤ size }
+    ensures { result ≡ leb (header_size (is_client session.now.settings) session.now.reply.length + session.now.reply.length) (size - session.now.held) }
 {
-    crate::frames::fits_in(client, 0, count, size - held)
-}
-
-// What a move leaves: the waiting reply, and the bytes held.
-#[derive(Clone, Copy)]
-pub struct Moved {
-    pub reply: Reply,
-    pub held: usize,
+    let client = session.settings.role == session::CLIENT;
+    crate::frames::fits_in(client, session.reply.length, size - session.held)
 }
 
 // The waiting reply moves behind the held bytes if it fits, and else waits on.
-pub fn move_reply(
-    client: bool,
-    reply: Reply,
-    held: usize,
-    mask: [u8; 4],
-    output: &mut [u8],
-) -> Moved
-    requires reply_short { waits reply.waiting ≡ true → reply.length ≤ 125 }
-    requires held_within { held ≤ length output.old }
-    ensures { moving result.reply result.held output.new ≡ move_of client reply held mask output.old }
+#[tactic(auto, using(crate::proofs::Encoding::fits_by), unfolding(session::specs::Replies::move_reply, session::specs::Replies::appended, session::specs::Replies::reply_frame, session::specs::Replies::no_reply))]
+pub fn move_reply(session: &mut Session, mask: [u8; 4], output: &mut [u8])
+    requires reply_short { waits session.old.reply.waiting ≡ true → session.old.reply.length ≤ 125 }
+    requires held_within { session.old.held ≤ length output.old }
+    ensures { out session.new output.new ≡ move_reply session.old mask output.old }
 {
-    let waiting = reply.waiting;
-    if session::range::waits(waiting) {
-        let length = reply.length;
-        if reply_fits(client, length, held, output.len()) {
-            let payload = reply.payload;
-            let behind = crate::frames::put_frame(
-                client,
-                reply_code(waiting),
-                mask,
-                [0, 0],
-                0,
-                &payload[..length],
-                output,
-                held,
-            );
-            return Moved {
-                reply: no_reply(reply),
-                held: behind,
-            };
-        }
+    if !session::range::waits(session.reply.waiting) {
+        return;
     }
-    Moved { reply, held }
+    let client = session.settings.role == session::CLIENT;
+    let payload = &session.reply.payload[..session.reply.length];
+    if crate::frames::fits_in(client, payload.len(), output.len() - session.held) {
+        let opcode = reply_code(session.reply.waiting);
+        session.held = crate::frames::put_frame(
+            client,
+            opcode,
+            mask,
+            &[],
+            payload,
+            output,
+            session.held,
+        );
+        session.reply.waiting = Waiting::Nothing;
+        session.reply.length = 0;
+    }
 }
