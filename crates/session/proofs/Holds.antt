@@ -6,10 +6,10 @@ use native.Mathlib.Omega.{arith}
 use lib.Dec.{eqb, leb}
 use lib.ListN.{get_or}
 use borrow.Author.Tests.{le-leb, leb-true}
+use Rattle.std.specs.Prelude.{None, Some}
 use Rattle.base.specs.Table.{pick}
 use Rattle.base.specs.Tests.{either}
 use Rattle.frame.specs.declared.header.FrameHeader.{FrameHeader}
-use Rattle.frame.specs.declared.header.Parsed.TheVariants.{Lacking, Whole}
 use Rattle.frame.specs.Header.{second_of, extra_bytes, size_by, missing, header_of, parsed}
 use Rattle.frame.proofs.Headers.{extra_within}
 use Rattle.frame.proofs.Lengths.{extra_most}
@@ -50,26 +50,26 @@ pub few_most : (i : Incoming) → few i ≡ true → i.kept ≤ 14
 few_most i e = omega (arith, few_within i e, size_most (get_or i.header 1 0))
 
 -- ---- what the parser says of the kept bytes
-pub whole_lacking : (i : Incoming) → parsed (kept i) ≡ Lacking → header_whole i ≡ false
+pub whole_lacking : (i : Incoming) → parsed (kept i) ≡ None → header_whole i ≡ false
 unfolding parsed header_whole
 whole_lacking i e = go (eqb (missing (kept i)) 0) e
   where
-    go : (t : Bool) → pick t (Whole (header_of (kept i))) Lacking ≡ Lacking → t ≡ false
+    go : (t : Bool) → pick t (Some (header_of (kept i))) None ≡ None → t ≡ false
     go true e = cc
     go false e = refl
 
-pub whole_there : (i : Incoming) (f : FrameHeader) → parsed (kept i) ≡ Whole f → header_whole i ≡ true
+pub whole_there : (i : Incoming) (f : FrameHeader) → parsed (kept i) ≡ Some f → header_whole i ≡ true
 unfolding parsed header_whole
 whole_there i f e = go (eqb (missing (kept i)) 0) e
   where
-    go : (t : Bool) → pick t (Whole (header_of (kept i))) Lacking ≡ Whole f → t ≡ true
+    go : (t : Bool) → pick t (Some (header_of (kept i))) None ≡ Some f → t ≡ true
     go true e = refl
     go false e = cc
 
-pub frame-there : (i : Incoming) (f : FrameHeader) → parsed (kept i) ≡ Whole f → frame i ≡ f
+pub frame-there : (i : Incoming) (f : FrameHeader) → parsed (kept i) ≡ Some f → frame i ≡ f
 unfolding parsed frame
 frame-there i f e = go (eqb (missing (kept i)) 0) e
   where
-    go : (t : Bool) → pick t (Whole (header_of (kept i))) Lacking ≡ Whole f → header_of (kept i) ≡ f
+    go : (t : Bool) → pick t (Some (header_of (kept i))) None ≡ Some f → header_of (kept i) ≡ f
     go true e = cc
     go false e = cc

@@ -9,7 +9,7 @@ ghost use Rattle.session.specs.Refusals.{numbered};
 use crate::refusal::Refusal;
 use crate::{Incoming, Reply, Session, Settings, Waiting};
 use coding::opcode::OpCode;
-use frame::header::{FrameHeader, Parsed};
+use frame::header::FrameHeader;
 
 pub const MOST_FRAME: usize = 16777216;
 
@@ -64,7 +64,7 @@ fn kept_holds(second: u8, kept: usize) -> bool
 }
 
 // The header that is kept, read: more bytes are kept than there are only in a session that is out of range.
-pub fn kept_header(incoming: &Incoming) -> Parsed
+pub fn kept_header(incoming: &Incoming) -> Option<FrameHeader>
     ensures { result ≡ parsed (kept incoming.now) }
 {
     frame::header::parse(&incoming.header[..incoming.kept.min(14)])
@@ -72,14 +72,14 @@ pub fn kept_header(incoming: &Incoming) -> Parsed
 
 // No more header bytes are kept than the header has, and no number names a whole one that is not refused.
 #[tactic(auto, unfolding(crate::specs::Range::header_holds, crate::specs::Frames::header_whole, crate::specs::Frames::frame, frame::specs::Header::parsed))]
-fn header_holds(session: &Session, header: Parsed) -> bool
+fn header_holds(session: &Session, header: Option<FrameHeader>) -> bool
     requires { header ≡ parsed (kept session.now.incoming) }
     ensures { result ≡ header_holds session.now.settings session.now.refusal session.now.incoming }
 {
     kept_holds(session.incoming.header[1], session.incoming.kept)
         && match header {
-            Parsed::Lacking => true,
-            Parsed::Whole(whole) => {
+            None => true,
+            Some(whole) => {
                 session.refusal != 0 || header_verdict(&session.settings, whole).is_ok()
             }
         }
@@ -87,18 +87,18 @@ fn header_holds(session: &Session, header: Parsed) -> bool
 
 // No more payload is counted than the frame has.
 #[tactic(auto, unfolding(crate::specs::Range::count_holds, crate::specs::Frames::header_whole, crate::specs::Frames::frame, frame::specs::Header::parsed))]
-fn count_holds(incoming: &Incoming, header: Parsed) -> bool
+fn count_holds(incoming: &Incoming, header: Option<FrameHeader>) -> bool
     requires { header ≡ parsed (kept incoming.now) }
     ensures { result ≡ count_holds incoming.now }
 {
     match header {
-        Parsed::Lacking => incoming.counted == 0,
-        Parsed::Whole(whole) => incoming.counted as u64 <= whole.length,
+        None => incoming.counted == 0,
+        Some(whole) => incoming.counted as u64 <= whole.length,
     }
 }
 
 #[tactic(auto, unfolding(crate::specs::Range::incoming_holds))]
-fn incoming_holds(session: &Session, header: Parsed) -> bool
+fn incoming_holds(session: &Session, header: Option<FrameHeader>) -> bool
     requires { header ≡ parsed (kept session.now.incoming) }
     ensures { result ≡ incoming_holds session.now.settings session.now.refusal session.now.incoming }
 {
@@ -124,7 +124,7 @@ fn reply_holds(reply: &Reply) -> bool
 
 // Whether a session's numbers are in range, for who has read the kept header already.
 #[tactic(auto, unfolding(crate::specs::Range::in_range, crate::specs::Range::range_of))]
-pub fn in_range_by(session: &Session, header: Parsed) -> bool
+pub fn in_range_by(session: &Session, header: Option<FrameHeader>) -> bool
     requires { header ≡ parsed (kept session.now.incoming) }
     ensures { result ≡ in_range session.now }
 {
