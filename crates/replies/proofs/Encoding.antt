@@ -48,6 +48,10 @@ pub fits_by : (held : ℕ) (output : List ℕ) (client : Bool) (op : OpCode) (ma
 unfolding fits
 fits_by held output client op mask p four = ap (λ (n : ℕ). leb n (length output - held)) (length-encoded client op mask p four)
 
+pub fits_parts : (held : ℕ) (output : List ℕ) (client : Bool) (op : OpCode) (mask s t : List ℕ) → length mask ≡ 4
+    → fits held output (encoded client op mask (s ++ t)) ≡ leb (header_size client (length s + length t) + (length s + length t)) (length output - held)
+fits_parts held output client op mask s t four = fits_by held output client op mask (s ++ t) four ∙ rw (length-append s t)
+
 -- ---- a header, and a payload in two parts, laid one after the other
 module _ (client : Bool) (op : OpCode) (mask s t : List ℕ) (four : length mask ≡ 4) {h : FrameHeader} (header : h ≡ frame_header client op (length s + length t)) (at : ℕ) {behind : ℕ} (place : behind ≡ at + header_size h.masked h.length) where
   pub behind-frame : behind + (length s + length t) ≡ at + length (encoded client op mask (s ++ t))

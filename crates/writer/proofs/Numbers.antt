@@ -1,10 +1,10 @@
--- Laws of the numbers 20, 1, 2, 17 and 18, which come before a frame is measured, and of what a session and an output have where none is owed.
-use mathlib.Core.Path.{◌≡◌, refl}
+-- What a session and an output store have where none of the numbers 20, 1, 2, 17 and 18 is owed.
+use mathlib.Core.Path.{◌≡◌, sym}
 use mathlib.Core.Bool.{Bool, true, false}
 use mathlib.Core.List.{List}
-use Prim.Native.Nat.{ℕ, ◌≤◌, ◌<◌}
+use Prim.Native.Nat.{ℕ, ◌≤◌}
 use native.Mathlib.Omega.{arith}
-use borrow.Author.Tests.{lt-ltb, le-ltb, ltb-false, eqb-true, not-false}
+use borrow.Author.Tests.{ltb-false, not-false}
 use lib.Dec.{ltb}
 use lib.ListN.{length}
 use Rattle.base.specs.Table.{pick}
@@ -13,56 +13,32 @@ use Rattle.base.proofs.Tests.{first_clear}
 use Rattle.session.specs.declared.Session.{Session}
 use Rattle.session.specs.Calls.{output_short, send_tests}
 use Rattle.session.specs.Range.{waits, in_range}
-use Rattle.session.specs.Session.{is_active}
 use Rattle.session.proofs.InRange.{good}
 
 -- ---- number 1
-abbrev pub short : ℕ → ℕ → Bool
-short size held = either (ltb size 131) (ltb size held)
-
-module _ (size held : ℕ) where
-  pub short-small : size < 131 → short size held ≡ true
-  short-small h = rw (lt-ltb size 131 h)
-
-  pub short-held : 131 ≤ size → size < held → short size held ≡ true
-  short-held h k = rw (le-ltb size 131 h, lt-ltb size held k)
-
-  pub long : 131 ≤ size → held ≤ size → short size held ≡ false
-  long h k = rw (le-ltb size 131 h, le-ltb size held k)
-
-  pub long_parts : short size held ≡ false → (131 ≤ size) × (held ≤ size)
-  long_parts e = go (ltb size 131) refl e
-    where
-      go : (t : Bool) → ltb size 131 ≡ t → pick t true (ltb size held) ≡ false → (131 ≤ size) × (held ≤ size)
-      go true f e = absurd (let z : ◌≡◌ {A = ℕ} 0 1 = cc in omega arith)
-      go false f e = (ltb-false size 131 f, ltb-false size held e)
-
--- ---- a session in range
-pub reply_short : (s : Session) → in_range s ≡ true → waits s.reply.waiting ≡ true → s.reply.length ≤ 125
-unfolding in_range
-reply_short s r w = (good r).reply_short w
+long_held : (size held : ℕ) → either (ltb size 131) (ltb size held) ≡ false → held ≤ size
+long_held size held e = go (ltb size 131) e
+  where
+    go : (t : Bool) → pick t true (ltb size held) ≡ false → held ≤ size
+    go true e = cc
+    go false e = ltb-false size held e
 
 -- ---- no number is owed
 pub record Clear (s : Session) (output : List ℕ) (bad : Bool) : Type 0 where
-  pub ranged : in_range s ≡ true
-  pub room : 131 ≤ length output
+  pub reply_short : waits s.reply.waiting ≡ true → s.reply.length ≤ 125
   pub held_within : s.held ≤ length output
-  pub active : s.state ≡ 0
   pub not_bad : bad ≡ false
 
-pub clear : (s : Session) (output : List ℕ) (bad : Bool) → first_of (send_tests s output bad) ≡ 0 → Clear s output bad
-unfolding send_tests output_short
+pub clear : (s : Session) (output : List ℕ) (bad : Bool) → 0 ≡ first_of (send_tests s output bad) → Clear s output bad
+unfolding send_tests output_short in_range
 clear s output bad e =
-    let range = first_clear 20 _ _ (omega arith) e in
+    let range = first_clear 20 _ _ (omega arith) (sym e) in
     let long = first_clear 1 _ _ (omega arith) range.1 in
     let on = first_clear 2 _ _ (omega arith) long.1 in
     let active = first_clear 17 _ _ (omega arith) on.1 in
     let bad = first_clear 18 _ _ (omega arith) active.1 in
-    let sizes = long_parts (length output) s.held long.0 in
     record {
-      ranged = not-false (in_range s) range.0;
-      room = sizes.0;
-      held_within = sizes.1;
-      active = eqb-true s.state 0 (not-false (is_active s.state) active.0);
+      reply_short = (good (not-false (in_range s) range.0)).reply_short;
+      held_within = long_held (length output) s.held long.0;
       not_bad = bad.0;
     }

@@ -1,114 +1,70 @@
 // The held bytes: shown, and handed over.
-ghost use Rattle.std.specs.Prelude.{◌≡◌, not, ◌∷◌, [], ltb};
-ghost use Rattle.base.specs.Tests.{either, ◌when◌, first_of};
+ghost use Rattle.std.specs.Prelude.{◌≡◌};
 ghost use Rattle.session.specs.Calls.{sending, take_call, held_number, held_part, waits_call};
-ghost use Rattle.session.specs.Range.{range_of};
+ghost use Rattle.session.specs.Refusals.{numbered, sent_of};
 
-use session::{Handed, Incoming, Sent, Session, Settings, Waiting};
+use session::refusal::Refusal;
+use session::{Handed, Session};
 
 // Whether a reply waits.
+#[tactic(auto, unfolding(session::specs::Calls::waits_call))]
 pub fn waits(session: Session) -> bool
     ensures { result ≡ waits_call session }
 {
-    let reply = session.reply;
-    let waiting = reply.waiting;
-    session::range::waits(waiting)
+    session::range::waits(session.reply.waiting)
 }
 
-// The number that a session and an output store of this size owe, 20 before 1, or 0. It takes the session's parts, since no byte is
-// looked at.
-pub(crate) fn owed(
-    settings: Settings,
-    state: u8,
-    refusal: u8,
-    incoming: Incoming,
-    waiting: Waiting,
-    count: usize,
-    held: usize,
-    size: usize,
-) -> u8
-    ensures { result ≡ first_of ((20 when not (range_of settings state refusal incoming waiting count)) ∷ (1 when either (ltb size 131) (ltb size held)) ∷ []) }
+// What a session and an output store owe before anything else is asked: 20, then 1.
+#[tactic(auto, unfolding(base::specs::Tests::first_of, session::specs::Calls::held_number, session::specs::Calls::output_short))]
+pub(crate) fn owed(session: &Session, output: &[u8]) -> Result<(), Refusal>
+    ensures { numbered result ≡ held_number session.now output.now }
 {
-    if !session::range::in_range(settings, state, refusal, incoming, waiting, count) {
-        return 20;
+    if !session::range::in_range(session) {
+        Err(Refusal::OutOfRange)
+    } else if output.len() < 131 || output.len() < session.held {
+        Err(Refusal::ShortStore)
+    } else {
+        Ok(())
     }
-    if size < 131 {
-        return 1;
-    }
-    if size < held {
-        return 1;
-    }
-    0
 }
 
-// The number that showing the held bytes would owe, or 0.
-pub fn held_number(session: Session, output: &[u8]) -> u8
-    ensures { result ≡ held_number session output.now }
+// What showing the held bytes would be refused with.
+pub fn held_number(session: Session, output: &[u8]) -> Result<(), Refusal>
+    ensures { numbered result ≡ held_number session output.now }
 {
-    let settings = session.settings;
-    let incoming = session.incoming;
-    let reply = session.reply;
-    let waiting = reply.waiting;
-    owed(
-        settings,
-        session.state,
-        session.refusal,
-        incoming,
-        waiting,
-        reply.length,
-        session.held,
-        output.len(),
-    )
+    owed(&session, output)
 }
 
-// The held bytes, as a part of the output store; none where a number is owed.
+// The held bytes, as a part of the output store. Kept: none where showing them is refused, as `held_part` has it; `held_number` says why.
+#[tactic(auto, unfolding(session::specs::Calls::held_part, session::specs::Calls::held_number, session::specs::Calls::output_short, base::specs::Tests::first_of))]
 pub fn held(session: Session, output: &[u8]) -> &[u8]
     ensures { (result.now ≡ held_part session output.now) × (result.ref_ptr ≡ output.entry.ref_ptr) }
 {
-    let count = session.held;
-    if held_number(session, output) != 0 {
-        return &output[..0];
+    match owed(&session, output) {
+        Ok(()) => &output[..session.held],
+        Err(_) => &output[..0],
     }
-    &output[..count]
 }
 
-// Takes the first n held bytes away and moves the rest to the front. The number is that of showing them, by the session's parts: it is
-// asked for after every message, and `held_number` would be handed a copy of the session.
-pub fn take(session: Session, n: usize, output: &mut [u8]) -> Handed
-    ensures { sending result.sent result.session output.new ≡ take_call session n output.old }
+// Takes the first n held bytes away and moves the rest to the front.
+pub fn take(mut session: Session, n: usize, output: &mut [u8]) -> Handed
+    ensures { sending (sent_of result.sent) result.session output.new ≡ take_call session n output.old }
 {
-    let held = session.held;
-    if held < n {
-        return Handed {
-            sent: Sent::Refused(20),
-            session,
-        };
-    }
-    let settings = session.settings;
-    let incoming = session.incoming;
-    let reply = session.reply;
-    let waiting = reply.waiting;
-    let number = owed(
-        settings,
-        session.state,
-        session.refusal,
-        incoming,
-        waiting,
-        reply.length,
-        held,
-        output.len(),
-    );
-    if number != 0 {
-        return Handed {
-            sent: Sent::Refused(number),
-            session,
-        };
-    }
-    stores::to_front(output, n, held);
-    let mut taken = session;
-    taken.held = held - n;
     Handed {
-        sent: Sent::Done,
-        session: taken,
+        sent: take_held(&mut session, n, output),
+        session,
     }
+}
+
+#[tactic(auto, using(session::proofs::Refusals::number_some), unfolding(base::specs::Tests::first_of, session::specs::Calls::take_call, session::specs::Calls::take_tests, session::specs::Calls::held_number, session::specs::Calls::output_short))]
+fn take_held(session: &mut Session, n: usize, output: &mut [u8]) -> Result<(), Refusal>
+    ensures { sending (sent_of result) session.new output.new ≡ take_call session.old n output.old }
+{
+    if session.held < n {
+        return Err(Refusal::OutOfRange);
+    }
+    owed(session, output)?;
+    stores::to_front(output, n, session.held);
+    session.held -= n;
+    Ok(())
 }

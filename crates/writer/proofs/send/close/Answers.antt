@@ -3,10 +3,9 @@ use mathlib.Core.Path.{◌∙◌}
 use Rattle.writer.proofs.Calls.{close_empty, close_code}
 use Rattle.writer.proofs.send.close.Goals as goal
 
-pub returns-in-Empty : goal.returns-in-Empty
-returns-in-Empty c =
-    rw c.in-Empty.is (c.send.ensures ∙ close_empty _ _ _ _)
+pub returns-in-None : goal.returns-in-None
+returns-in-None c = rw c.in-None.is (c.send_frame-sent.ensures ∙ close_empty _ _ _ _)
 
-pub returns-in-Code : goal.returns-in-Code
-returns-in-Code c =
-    rw c.in-Code.is (c.send-in-Code.ensures ∙ close_code _ _ _ _ _ c.code_bytes.ensures c.is_bad_reason-bad.ensures)
+pub returns-in-Some : goal.returns-in-Some
+returns-in-Some c =
+    rw c.in-Some.is (c.send_frame-sent-in-Some.ensures ∙ close_code _ _ _ _ _ c.code_bytes-lead.ensures c.is_bad_reason-bad.ensures)
