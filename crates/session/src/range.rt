@@ -70,31 +70,25 @@ pub fn kept_header(incoming: &Incoming) -> Option<FrameHeader>
     frame::header::parse(&incoming.header[..incoming.kept.min(14)])
 }
 
-// No more header bytes are kept than the header has, and no number names a whole one that is not refused.
-#[tactic(auto, unfolding(crate::specs::Range::header_holds, crate::specs::Frames::header_whole, crate::specs::Frames::frame, frame::specs::Header::parsed))]
-fn header_holds(session: &Session, header: Option<FrameHeader>) -> bool
+// A whole header's frame: no more payload is counted than it has, and no number would have refused it at its header.
+fn frame_holds(session: &Session, header: FrameHeader) -> bool
+    ensures { result ≡ both (either (not (eqb session.now.refusal 0)) (eqb (first_of (header_tests session.now.settings header)) 0)) (leb session.now.incoming.counted header.length) }
+{
+    session.incoming.counted as u64 <= header.length
+        && (session.refusal != 0 || header_verdict(&session.settings, header).is_ok())
+}
+
+// No more header bytes are kept than the header has, and its frame holds where it is whole.
+#[tactic(auto, unfolding(crate::specs::Range::header_holds, crate::specs::Range::count_holds, crate::specs::Frames::header_whole, crate::specs::Frames::frame, frame::specs::Header::parsed))]
+fn header_and_count_hold(session: &Session, header: Option<FrameHeader>) -> bool
     requires { header ≡ parsed (kept session.now.incoming) }
-    ensures { result ≡ header_holds session.now.settings session.now.refusal session.now.incoming }
+    ensures { result ≡ both (header_holds session.now.settings session.now.refusal session.now.incoming) (count_holds session.now.incoming) }
 {
     kept_holds(session.incoming.header[1], session.incoming.kept)
         && match header {
-            None => true,
-            Some(whole) => {
-                session.refusal != 0 || header_verdict(&session.settings, whole).is_ok()
-            }
+            None => session.incoming.counted == 0,
+            Some(whole) => frame_holds(session, whole),
         }
-}
-
-// No more payload is counted than the frame has.
-#[tactic(auto, unfolding(crate::specs::Range::count_holds, crate::specs::Frames::header_whole, crate::specs::Frames::frame, frame::specs::Header::parsed))]
-fn count_holds(incoming: &Incoming, header: Option<FrameHeader>) -> bool
-    requires { header ≡ parsed (kept incoming.now) }
-    ensures { result ≡ count_holds incoming.now }
-{
-    match header {
-        None => incoming.counted == 0,
-        Some(whole) => incoming.counted as u64 <= whole.length,
-    }
 }
 
 #[tactic(auto, unfolding(crate::specs::Range::incoming_holds))]
@@ -102,8 +96,7 @@ fn incoming_holds(session: &Session, header: Option<FrameHeader>) -> bool
     requires { header ≡ parsed (kept session.now.incoming) }
     ensures { result ≡ incoming_holds session.now.settings session.now.refusal session.now.incoming }
 {
-    header_holds(session, header)
-        && count_holds(&session.incoming, header)
+    header_and_count_hold(session, header)
         && session.incoming.progress <= utf8::BAD
         && session.incoming.fragments <= session.settings.message
 }
