@@ -7,6 +7,8 @@ use native.Mathlib.Omega.{arith}
 use lib.Dec.{eqb, ltb}
 use borrow.Author.Rules.{rules}
 use borrow.Author.Tests.{ltb-false, eqb-true, eqb-false}
+use Rattle.std.specs.Prelude.{Result, Ok, Err}
+use Rattle.std.specs.Result.{is_err}
 use Rattle.base.specs.Tests.{both, either, Test, ◌when◌, first_of}
 use Rattle.base.proofs.Tests.{first_stop, first_pass, first_clear}
 use Rattle.coding.specs.declared.opcode.Control.{Control as ControlKind}
@@ -14,10 +16,13 @@ use Rattle.coding.specs.declared.opcode.Data.{Data as DataKind}
 use Rattle.coding.specs.declared.opcode.OpCode.{OpCode}
 use Rattle.coding.specs.declared.opcode.OpCode.TheVariants.{Data, Control, Reserved}
 use Rattle.frame.specs.declared.header.FrameHeader.{FrameHeader}
+use Rattle.session.specs.declared.refusal.Refusal.{Refusal}
 use Rattle.session.specs.declared.Incoming.{Incoming}
 use Rattle.session.specs.declared.Settings.{Settings}
 use Rattle.session.specs.Frames.{is_reserved, is_control, is_close, is_close_kind, is_continue, is_continue_kind, is_data, header_tests, before, doom_tests, doom}
+use Rattle.session.specs.Refusals.{number_of, numbered}
 use Rattle.session.specs.Session.{is_server, is_client, is_peer_closed}
+use Rattle.session.proofs.Refusals.{number_some}
 use Rattle.base.proofs.Choice.{by_test}
 
 abbrev pub any_tests : Settings → ℕ → FrameHeader → List Test
@@ -47,9 +52,13 @@ kind_tests g f i op =
     ∷ []
 
 module _ (g : Settings) (state : ℕ) (f : FrameHeader) (i : Incoming) where
-  pub doom-any : (first_of (any_tests g state f) ≡ 0 → ⊥) → doom g state f i ≡ first_of (any_tests g state f)
+  doom-any : (first_of (any_tests g state f) ≡ 0 → ⊥) → doom g state f i ≡ first_of (any_tests g state f)
   unfolding doom doom_tests
   doom-any h = first_stop (any_tests g state f) (kind_tests g f i f.opcode) h
+
+  -- a refusal by them is the header's
+  pub doom-refused : (e : Refusal) → number_of e ≡ first_of (any_tests g state f) → number_of e ≡ doom g state f i
+  doom-refused e p = p ∙ sym (doom-any (λ z. number_some e (p ∙ z)))
 
   doom-kind : first_of (any_tests g state f) ≡ 0 → (op : OpCode) → f.opcode ≡ op → doom g state f i ≡ first_of (kind_tests g f i op)
   unfolding doom doom_tests
@@ -103,3 +112,20 @@ module _ (g : Settings) (state : ℕ) (f : FrameHeader) (i : Incoming) where
           let one = (first_clear 13 _ _ (search rules) tests).1 in
           let two = (first_clear 14 _ _ (search rules) one).1 in
           ltb-false g.message (before i + f.length) (first_clear 15 _ _ (search rules) two).0
+
+  -- so a run of it that the header has room for does
+  pub control_fits : (n size : ℕ) → doom g state f i ≡ 0 → is_control f.opcode ≡ true → i.counted + n ≤ f.length → 125 ≤ size → i.counted + n ≤ size
+  control_fits n size clear e h k = omega (arith, control_room clear e)
+
+  pub data_fits : (n size : ℕ) → first_of (header_tests g f) ≡ 0 → doom g state f i ≡ 0 → is_control f.opcode ≡ false → i.counted + n ≤ f.length → g.message ≤ size
+      → before i + i.counted + n ≤ size
+  data_fits n size legal clear e h k = omega (arith, data_room legal clear e)
+
+-- ---- a refusal, and none
+pub refused : (r : Result (Unit {0}) Refusal) {n : ℕ} {b : Bool} → numbered r ≡ n → b ≡ is_err r → b ≡ true → n ≡ 0 → ⊥
+refused (Ok u) e p q = absurd (let z : true ≡ false = sym q ∙ p in let y : ◌≡◌ {A = ℕ} 0 1 = cc in omega arith)
+refused (Err x) e p q = λ z. number_some x (e ∙ z)
+
+pub not_refused : (r : Result (Unit {0}) Refusal) {n : ℕ} {b : Bool} → numbered r ≡ n → b ≡ is_err r → b ≡ false → n ≡ 0
+not_refused (Ok u) e p q = sym e
+not_refused (Err x) e p q = absurd (let z : false ≡ true = sym q ∙ p in let y : ◌≡◌ {A = ℕ} 0 1 = cc in omega arith)

@@ -9,25 +9,34 @@ use lib.ListN.{length, take}
 use borrow.Author.Rules.{rules}
 use borrow.Author.Tests.{eq-eqb, ne_eqb, eqb-true, eqb-false, lt-leb, le-leb}
 use Rattle.base.specs.Table.{pick}
-use Rattle.base.specs.Tests.{either, first_of}
+use Rattle.base.specs.Tests.{both, either, first_of}
 use Rattle.base.proofs.Choice.{by_test}
 use Rattle.base.proofs.Tests.{first_stop, first_pass}
 use Rattle.coding.specs.declared.opcode.Control.{Control as ControlKind}
 use Rattle.coding.specs.declared.opcode.Data.{Data as DataKind}
 use Rattle.coding.specs.declared.opcode.OpCode.{OpCode}
 use Rattle.coding.specs.declared.opcode.OpCode.TheVariants.{Data, Control, Reserved}
+use Rattle.frame.specs.declared.close.ClosePayload.{ClosePayload}
+use Rattle.frame.specs.declared.close.ClosePayload.TheVariants.{Empty, OneByte, CodeAndReason}
 use Rattle.frame.specs.Close.{close_of}
 use Rattle.frame.specs.declared.header.FrameHeader.{FrameHeader}
 use Rattle.session.specs.declared.Answer.{Answer}
 use Rattle.session.specs.declared.Answer.TheVariants.{More, Text, Binary, Refused}
+use Rattle.session.specs.declared.refusal.Refusal.{Refusal}
+use Rattle.session.specs.Refusals.{number_of}
+use Rattle.session.proofs.Refusals.{number_some}
 use Rattle.session.specs.declared.Incoming.{Incoming}
 use Rattle.session.specs.declared.Settings.{Settings}
 use Rattle.session.specs.Frames.{is_control, is_close, is_text_code, is_text, header_whole, frame, header_tests, before, progress_now, doom_tests, doom, reason_holds, text_holds, utf_test, verdict}
 use Rattle.session.specs.Reading.{World, world, between, control_event, ended, refuse, finish, rest, settle}
 use Rattle.utf8.specs.Progress.{progress_after, is_whole}
-use Rattle.message.specs.Reasons.{has_reason}
 
--- a payload with no reason, and one with a code before it
+-- the payloads that have a reason: those with a code, whatever the code
+abbrev pub has_reason : ClosePayload → Bool
+has_reason Empty = false
+has_reason OneByte = false
+has_reason (CodeAndReason code) = true
+
 pub reason_none : (p : List ℕ) → has_reason (close_of p) ≡ false → true ≡ reason_holds p
 unfolding close_of reason_holds progress_after is_whole
 reason_none [] e = refl
@@ -46,15 +55,23 @@ close_is_control (Reserved n) e = cc
 close_is_control (Data d) e = cc
 close_is_control (Control k) e = refl
 
-close_no_text : (text : Bool) (op : OpCode) → is_close op ≡ true → is_text_code text op ≡ false
-close_no_text text (Reserved n) e = refl
-close_no_text text (Data d) e = cc
-close_no_text text (Control k) e = refl
+pub close_no_text : (f : FrameHeader) (i : Incoming) → is_close f.opcode ≡ true → is_text f i ≡ false
+unfolding is_text
+close_no_text f i e = go f.opcode e
+  where
+    go : (op : OpCode) → is_close op ≡ true → is_text_code i.text op ≡ false
+    go (Reserved n) e = refl
+    go (Data d) e = cc
+    go (Control k) e = refl
 
 module _ (g : Settings) (state : ℕ) (f : FrameHeader) (i : Incoming) (control : List ℕ) where
-  pub verdict-doomed : (doom g state f i ≡ 0 → ⊥) → doom g state f i ≡ verdict g state f i control
+  verdict-doomed : (doom g state f i ≡ 0 → ⊥) → doom g state f i ≡ verdict g state f i control
   unfolding verdict doom
   verdict-doomed h = sym (first_stop (doom_tests g state f i) (utf_test f i control ∷ []) h)
+
+  -- a refusal by the header is the frame's
+  pub verdict-refused : (e : Refusal) → number_of e ≡ doom g state f i → number_of e ≡ verdict g state f i control
+  verdict-refused e p = p ∙ verdict-doomed (λ z. number_some e (p ∙ z))
 
   verdict-clear : doom g state f i ≡ 0 → verdict g state f i control ≡ first_of (utf_test f i control ∷ [])
   unfolding verdict doom doom_tests
@@ -66,25 +83,15 @@ module _ (g : Settings) (state : ℕ) (f : FrameHeader) (i : Incoming) (control 
       by_test (eqb (doom g state f i) 0) (λ t. eqb-true (doom g state f i) 0 t) (λ t. verdict-doomed (eqb-false (doom g state f i) 0 t) ∙ h)
 
   module _ (clear : doom g state f i ≡ 0) where
-    pub verdict-close : is_close f.opcode ≡ true → {b : Bool} → reason_holds (take f.length control) ≡ b → ◌≡◌ {A = ℕ} (pick b 0 12) (verdict g state f i control)
-    unfolding first_of utf_test is_text
-    verdict-close e {b} r = sym (verdict-clear clear ∙ rw (e, r, close_no_text i.text f.opcode e) (go b))
+    -- what the UTF-8 check says, as a test and as a number
+    pub verdict-utf : {b : Bool} → b ≡ not (either (both (is_close f.opcode) (not (reason_holds (take f.length control)))) (both (is_text f i) (not (text_holds f i))))
+        → ◌≡◌ {A = ℕ} (pick b 0 12) (verdict g state f i control)
+    unfolding first_of utf_test
+    verdict-utf e = rw e (go _) ∙ sym (verdict-clear clear)
       where
-        go : (b : Bool) → ◌≡◌ {A = ℕ} (pick (either (not b) false) 12 0) (pick b 0 12)
+        go : (t : Bool) → ◌≡◌ {A = ℕ} (pick (not t) 0 12) (pick t 12 0)
         go true = refl
         go false = refl
-
-    pub verdict-text : is_close f.opcode ≡ false → is_text f i ≡ true → {b : Bool} → text_holds f i ≡ b → ◌≡◌ {A = ℕ} (pick b 0 12) (verdict g state f i control)
-    unfolding first_of utf_test
-    verdict-text e t {b} r = sym (verdict-clear clear ∙ rw (e, t, r) (go b))
-      where
-        go : (b : Bool) → ◌≡◌ {A = ℕ} (pick (not b) 12 0) (pick b 0 12)
-        go true = refl
-        go false = refl
-
-    pub verdict-other : is_close f.opcode ≡ false → is_text f i ≡ false → 0 ≡ verdict g state f i control
-    unfolding first_of utf_test
-    verdict-other e t = sym (verdict-clear clear ∙ rw (e, t))
 
 -- ---- what the end leaves
 module _ (f : FrameHeader) (i : Incoming) (m c : List ℕ) where
@@ -109,9 +116,11 @@ module _ (f : FrameHeader) (i : Incoming) (m c : List ℕ) where
       ∙ ap (λ (op : OpCode). ended f op (world i m c More)) (sym e)
 
 module _ (g : Settings) (state : ℕ) (i : Incoming) (m c : List ℕ) (f : FrameHeader) (kept-one : f ≡ frame i) where
-  pub finish-refused : {n : ℕ} → n ≡ verdict g state f i c → (n ≡ 0 → ⊥) → world i m c (Refused n) ≡ finish g state (world i m c More)
+  pub finish-refused : (e : Refusal) {n : ℕ} → number_of e ≡ verdict g state f i c → n ≡ number_of e → world i m c (Refused n) ≡ finish g state (world i m c More)
   unfolding finish refuse
-  finish-refused {n} e h =
+  finish-refused r {n} p q =
+      let e : n ≡ verdict g state f i c = q ∙ p in
+      let h : n ≡ 0 → ⊥ = λ z. number_some r (sym q ∙ z) in
       let same : n ≡ verdict g state (frame i) i c = e ∙ ap (λ (x : FrameHeader). verdict g state x i c) kept-one in
       rw (ne_eqb (verdict g state (frame i) i c) 0 (λ z. h (same ∙ z))) (ap (λ (x : ℕ). world i m c (Refused x)) same)
 
@@ -135,9 +144,11 @@ module _ (g : Settings) (state : ℕ) (i : Incoming) (m c : List ℕ) where
   settle-lacking h = rw h
 
   module _ (f : FrameHeader) (there : header_whole i ≡ true) (kept-one : f ≡ frame i) where
-    pub settle-refused : {n : ℕ} → n ≡ first_of (header_tests g f) → (n ≡ 0 → ⊥) → world i m c (Refused n) ≡ settle g state (world i m c More)
+    pub settle-refused : (e : Refusal) {n : ℕ} → number_of e ≡ first_of (header_tests g f) → n ≡ number_of e → world i m c (Refused n) ≡ settle g state (world i m c More)
     unfolding settle refuse
-    settle-refused {n} e h =
+    settle-refused r {n} p q =
+        let e : n ≡ first_of (header_tests g f) = q ∙ p in
+        let h : n ≡ 0 → ⊥ = λ z. number_some r (sym q ∙ z) in
         let same : n ≡ first_of (header_tests g (frame i)) = e ∙ ap (λ (x : FrameHeader). first_of (header_tests g x)) kept-one in
         rw (there, ne_eqb (first_of (header_tests g (frame i))) 0 (λ z. h (same ∙ z))) (ap (λ (x : ℕ). world i m c (Refused x)) same)
 

@@ -1,4 +1,3 @@
-pub mod Sums
 pub mod Dooms
 pub mod Runs
 pub mod Ends

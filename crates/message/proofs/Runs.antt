@@ -2,17 +2,20 @@
 use mathlib.Core.Path.{◌≡◌, refl, sym, ap, ap₂, ◌∙◌}
 use mathlib.Core.Bool.{Bool, true, false}
 use mathlib.Core.List.{List, [], ◌∷◌, ◌++◌}
-use Prim.Native.Nat.{ℕ, suc, ◌+◌, ◌<◌, ◌≤◌}
+use Prim.Native.Nat.{ℕ, suc, ◌+◌, ◌-◌, ◌<◌, ◌≤◌}
 use native.Mathlib.Omega.{arith}
 use lib.Dec.{eqb, ltb}
-use lib.ListN.{length}
+use lib.ListN.{length, get_or}
 use borrow.Author.Tests.{lt-leb, lt-ltb, eq-eqb, ne_eqb}
+use Rattle.std.specs.Prelude.{Option, None, Some}
+use Rattle.std.specs.Option.{unwrap_or}
 use Rattle.base.specs.Bytes.{part}
 use Rattle.base.specs.Stores.{laid}
 use Rattle.base.specs.Table.{pick}
+use Rattle.base.specs.Tests.{both}
 use Rattle.base.proofs.Stores.{laid-append, laid-part}
 use Rattle.frame.specs.declared.header.FrameHeader.{FrameHeader}
-use Rattle.frame.specs.Header.{mask_in}
+use Rattle.frame.specs.Header.{second_of, size_by, missing, no_mask, mask_in, mask_given}
 use Rattle.mask.specs.Mask.{masked}
 use Rattle.mask.proofs.Laws.{masked-append, length-masked}
 use Rattle.session.specs.declared.Answer.{Answer}
@@ -46,6 +49,19 @@ module _ (i : Incoming) (n p : ℕ) where
   doom-on : (g : Settings) (state : ℕ) → doom g state (frame i) (counts i n p) ≡ doom g state (frame i) i
   unfolding doom doom_tests before
   doom-on g state = refl
+
+-- ---- the mask that is read
+given-or : (h : List ℕ) → unwrap_or (mask_given h) no_mask ≡ mask_in h
+unfolding mask_given mask_in
+given-or h = go (eqb (missing h) 0) (second_of (get_or h 1 0)).masked (part (size_by (get_or h 1 0) - 4) 4 h)
+  where
+    go : (a b : Bool) (l : List ℕ) → unwrap_or (pick (both a b) (Some (pick a (pick b l no_mask) no_mask)) None) no_mask ≡ pick a (pick b l no_mask) no_mask
+    go true true l = refl
+    go true false l = refl
+    go false b l = refl
+
+pub mask_kept : (i : Incoming) {o : Option (List ℕ)} {mask : List ℕ} → o ≡ mask_given (kept i) → mask ≡ unwrap_or o no_mask → mask ≡ mask_in (kept i)
+mask_kept i p q = q ∙ ap (λ (o : Option (List ℕ)). unwrap_or o no_mask) p ∙ given-or (kept i)
 
 -- ---- a run in two parts
 pub length-plain : (i : Incoming) (vs : List ℕ) → length (plain i vs) ≡ length vs

@@ -24,8 +24,10 @@ use Rattle.frame.proofs.Headers.{missing-early, missing-later}
 use Rattle.session.specs.declared.Answer.{Answer}
 use Rattle.session.specs.declared.Answer.TheVariants.{More, Text, Binary, Ping, Pong, Close, Refused}
 use Rattle.session.specs.declared.Incoming.{Incoming}
+use Rattle.session.specs.declared.Session.{Session}
 use Rattle.session.specs.declared.Settings.{Settings}
 use Rattle.session.specs.Frames.{is_reserved, kept, header_whole, frame, header_tests, is_text, verdict}
+use Rattle.session.specs.Session.{with_incoming}
 use Rattle.session.specs.Reading.{World, world, At, after, keep, stored, ended, refuse, finish, rest, settle, byte_in, is_more, step, feed}
 use Rattle.session.proofs.Fold.{is_more_lem, feed-append, feed-stopped}
 use Rattle.session.proofs.Holds.{size_most}
@@ -245,15 +247,32 @@ module _ (g : Settings) (state : ℕ) where
         ∙ ap (after (rest g state (reached g state (world i m c More) vs))) (let z : length vs ≡ 0 + length vs = omega arith in z)
         ∙ sym (feed-payload 0 vs h l (λ z. omega arith))
 
-  module _ (piece : List ℕ) (at to : ℕ) (i : Incoming) (m c : List ℕ) (o : at ≤ to) (l : to ≤ length piece) (h : header_whole i ≡ true)
-      (legal : first_of (header_tests g (frame i)) ≡ 0) (few : at < to → i.counted + (to - at) ≤ (frame i).length) where
+  -- as much of a frame's payload as the piece has: f is the kept header, and left what is still to come
+  module _ (piece : List ℕ) (at to left : ℕ) (i : Incoming) (m c : List ℕ) (f : FrameHeader) (kept-one : f ≡ frame i) (h : header_whole i ≡ true)
+      (of_header : first_of (header_tests g f) ≡ 0) (due : left ≡ f.length - i.counted)
+      (ends : (at ≤ to) × (to ≤ length piece) × (to - at ≤ left) × (to - at < left → to ≡ length piece)) where
+    o : at ≤ to
+    o = ends.0
+
+    l : to ≤ length piece
+    l = ends.1
+
+    size : f.length ≡ (frame i).length
+    size = ap (λ (x : FrameHeader). x.length) kept-one
+
+    legal : first_of (header_tests g (frame i)) ≡ 0
+    legal = ap (λ (x : FrameHeader). first_of (header_tests g x)) (sym kept-one) ∙ of_header
+
+    few : at < to → i.counted + (to - at) ≤ (frame i).length
+    few p = omega (arith, size, due, ends.2)
+
     abbrev run : List ℕ
     run = take (to - at) (drop at piece)
 
     run_length : length run ≡ to - at
     run_length = length-take-le (to - at) (drop at piece) (simp length-drop (omega arith))
 
-    pub run-few : 0 < length run → i.counted + length run ≤ (frame i).length
+    run-few : 0 < length run → i.counted + length run ≤ (frame i).length
     run-few p = omega (arith, run_length, few (omega (arith, run_length)))
 
     fed-run : {u : World} → u ≡ reached g state (world i m c More) run → feed g state (after (settle g state (world i m c More)) at) run ≡ after (rest g state u) to
@@ -262,14 +281,13 @@ module _ (g : Settings) (state : ℕ) where
         feed-payload i m c at run h legal run-few ∙ ap₂ (λ (x : World) (k : ℕ). after (rest g state x) k) (sym e) f
 
     -- the frame is not whole yet, and the piece is used up
-    pub turned_open : (j : Incoming) (d x : List ℕ) → world j d x More ≡ reached g state (world i m c More) run → j.counted < (frame i).length
-        → (i.counted + (to - at) < (frame i).length → to ≡ length piece) → Turned g state piece at to (world i m c More) (world j d x More) false
-    turned_open j d x e k used =
+    pub turned_open : (j : Incoming) (d x : List ℕ) → world j d x More ≡ reached g state (world i m c More) run → j.counted < f.length → Turned g state piece at to (world i m c More) (world j d x More) false
+    turned_open j d x e k =
         let same : frame j ≡ frame i = ap (λ (w : World). frame w.incoming) e ∙ reached-frame i m c run in
         let count : j.counted ≡ i.counted + length run = ap (λ (w : World). w.incoming.counted) e ∙ reached-counted i m c run in
-        let end : to ≡ length piece = used (omega (arith, count, run_length)) in
+        let end : to ≡ length piece = ends.3 (omega (arith, count, run_length, due)) in
         let all : run ≡ drop at piece = take_all (to - at) (drop at piece) (simp length-drop (omega (arith, end))) in
-        let waits : j.counted < (frame j).length = omega (arith, ap (λ (y : FrameHeader). y.length) same) in
+        let waits : j.counted < (frame j).length = omega (arith, size, ap (λ (y : FrameHeader). y.length) same) in
         record {
           within = l;
           goes = λ t. not_both false t refl;
@@ -280,20 +298,20 @@ module _ (g : Settings) (state : ℕ) where
         }
 
     -- the frame ends
-    pub turned_end : (j : Incoming) (d x : List ℕ) (v : World) (on : Bool) → world j d x More ≡ reached g state (world i m c More) run → (frame i).length ≤ j.counted
+    pub turned_end : (j : Incoming) (d x : List ℕ) (v : World) (on : Bool) → world j d x More ≡ reached g state (world i m c More) run → f.length ≤ j.counted
         → v ≡ finish g state (world j d x More) → on ≡ is_more v.answer → Turned g state piece at to (world i m c More) v on
-    turned_end j d x v on e k f q =
+    turned_end j d x v on e k w q =
         let same : frame j ≡ frame i = ap (λ (w : World). frame w.incoming) e ∙ reached-frame i m c run in
-        let whole : (frame j).length ≤ j.counted = omega (arith, ap (λ (y : FrameHeader). y.length) same) in
-        let ended : v ≡ rest g state (world j d x More) = rest-whole g state j d x (frame j) refl whole f in
+        let whole : (frame j).length ≤ j.counted = omega (arith, size, ap (λ (y : FrameHeader). y.length) same) in
+        let ended : v ≡ rest g state (world j d x More) = rest-whole g state j d x (frame j) refl whole w in
         let fed : feed g state (after (settle g state (world i m c More)) at) run ≡ after v to = fed-run e ∙ ap (λ (w : World). after w to) (sym ended) in
         record {
           within = l;
           goes = λ t.
               let more : v.answer ≡ More = is_more_lem v.answer (sym q ∙ t) in
               let none : v.incoming.kept ≡ 0 =
-              ap (λ (w : World). w.incoming.kept) f
-              ∙ finish-more (world j d x More) (ap (λ (y : FrameHeader). first_of (header_tests g y)) same ∙ legal) (sym (ap (λ (w : World). w.answer) f) ∙ more) in
+              ap (λ (y : World). y.incoming.kept) w
+              ∙ finish-more (world j d x More) (ap (λ (y : FrameHeader). first_of (header_tests g y)) same ∙ legal) (sym (ap (λ (y : World). y.answer) w) ∙ more) in
               let still_open : world v.incoming v.message v.control More ≡ v = ap (world v.incoming v.message v.control) (sym more) in
               let still : v ≡ settle g state v =
               sym still_open ∙ settle-lacking g state v.incoming v.message v.control (none_whole v.incoming none) ∙ ap (settle g state) still_open in
@@ -310,6 +328,10 @@ module _ (g : Settings) (state : ℕ) where
               ∙ sym (feed-append g state (after (settle g state (world i m c More)) at) run (drop (to - at) (drop at piece)))
               ∙ ap (feed g state (after (settle g state (world i m c More)) at)) (take-append-drop (to - at) (drop at piece));
         }
+
+    -- the header is left as it was
+    pub turned_header : (j : Incoming) (d x : List ℕ) → world j d x More ≡ reached g state (world i m c More) run → f ≡ frame j
+    turned_header j d x e = kept-one ∙ sym (ap (λ (w : World). frame w.incoming) e ∙ reached-frame i m c run)
 
   -- ---- turn after turn
   pub feed-goes : (piece : List ℕ) (at to : ℕ) (x : At) (w v : World) → after (settle g state w) at ≡ feed g state x (take at piece) → Goes g state piece at to w v
@@ -329,3 +351,7 @@ module _ (g : Settings) (state : ℕ) where
       ∙ ap (λ (z : At). feed g state z (drop at piece)) e
       ∙ sym (feed-append g state x (take at piece) (drop at piece))
       ∙ ap (feed g state x) (take-append-drop at piece)
+
+-- ---- a session of which only what has come is another
+pub same_settings : {A : Type 0} (h : Settings → ℕ → A) (s t : Session) → t ≡ with_incoming s t.incoming → h t.settings t.state ≡ h s.settings s.state
+same_settings h s t e = λ x. h (e x).settings (e x).state

@@ -1,171 +1,128 @@
-// The number that a header and the session already decide, before any payload has come.
+// The refusal that a header and the session already decide, before any payload has come.
 ghost use Rattle.std.specs.Prelude.{◌≡◌, not, ◌∷◌, [], ◌+◌, eqb, ltb};
 ghost use Rattle.base.specs.Tests.{both, either, ◌when◌, first_of};
-ghost use Rattle.session.specs.Frames.{before, doom};
+ghost use Rattle.session.specs.Frames.{before, doom, is_close_kind, is_continue_kind};
+ghost use Rattle.session.specs.Refusals.{numbered};
 ghost use Rattle.session.specs.Session.{is_server, is_client, is_peer_closed};
 
-use coding::opcode::OpCode;
+use coding::opcode::{Control, Data, OpCode};
 use frame::header::FrameHeader;
-use session::{Incoming, Settings};
+use session::refusal::Refusal;
+use session::{Incoming, Session};
 
-fn lacks_mask(settings: Settings, masked: bool) -> bool
-    ensures { result ≡ both (is_server settings) (both (not masked) (not settings.unmasked)) }
+fn lacks_mask(session: &Session, header: FrameHeader) -> bool
+    ensures { result ≡ both (is_server session.now.settings) (both (not header.masked) (not session.now.settings.unmasked)) }
 {
-    if settings.role == session::SERVER {
-        if masked {
-            return false;
-        }
-        if settings.unmasked {
-            return false;
-        }
-        return true;
-    }
-    false
+    session.settings.role == session::SERVER && !header.masked && !session.settings.unmasked
 }
 
-fn comes_late(settings: Settings, state: u8) -> bool
-    ensures { result ≡ both (is_client settings) (is_peer_closed state) }
+fn comes_late(session: &Session) -> bool
+    ensures { result ≡ both (is_client session.now.settings) (is_peer_closed session.now.state) }
 {
-    if settings.role == session::CLIENT {
-        if state == session::CLOSED_BY_PEER {
-            return true;
-        }
-        if state == session::CLOSE_ACKNOWLEDGED {
-            return true;
-        }
-    }
-    false
+    session.settings.role == session::CLIENT
+        && (session.state == session::CLOSED_BY_PEER
+            || session.state == session::CLOSE_ACKNOWLEDGED)
+}
+
+fn masks_to_client(session: &Session, header: FrameHeader) -> bool
+    ensures { result ≡ both (is_client session.now.settings) header.masked }
+{
+    session.settings.role == session::CLIENT && header.masked
 }
 
 fn sets_reserved(header: FrameHeader) -> bool
     ensures { result ≡ either header.rsv1 (either header.rsv2 header.rsv3) }
 {
-    if header.rsv1 {
-        return true;
-    }
-    if header.rsv2 {
-        return true;
-    }
-    header.rsv3
+    header.rsv1 || header.rsv2 || header.rsv3
 }
 
-fn masks_to_client(settings: Settings, masked: bool) -> bool
-    ensures { result ≡ both (is_client settings) masked }
+// Of any frame: 5 to 8.
+#[tactic(auto, unfolding(base::specs::Tests::first_of))]
+fn doom_any(session: &Session, header: FrameHeader) -> Result<(), Refusal>
+    ensures { numbered result ≡ first_of ((5 when both (is_server session.now.settings) (both (not header.masked) (not session.now.settings.unmasked))) ∷ (6 when both (is_client session.now.settings) (is_peer_closed session.now.state)) ∷ (7 when either header.rsv1 (either header.rsv2 header.rsv3)) ∷ (8 when both (is_client session.now.settings) header.masked) ∷ []) }
 {
-    if settings.role == session::CLIENT {
-        return masked;
+    if lacks_mask(session, header) {
+        return Err(Refusal::Unmasked);
     }
-    false
-}
-
-// 5, 6, 7, 8: of any frame.
-fn doom_any(settings: Settings, state: u8, header: FrameHeader) -> u8
-    ensures { result ≡ first_of ((5 when both (is_server settings) (both (not header.masked) (not settings.unmasked))) ∷ (6 when both (is_client settings) (is_peer_closed state)) ∷ (7 when either header.rsv1 (either header.rsv2 header.rsv3)) ∷ (8 when both (is_client settings) header.masked) ∷ []) }
-{
-    if lacks_mask(settings, header.masked) {
-        return 5;
-    }
-    if comes_late(settings, state) {
-        return 6;
+    if comes_late(session) {
+        return Err(Refusal::AfterClose);
     }
     if sets_reserved(header) {
-        return 7;
+        return Err(Refusal::ReservedBit);
     }
-    if masks_to_client(settings, header.masked) {
-        return 8;
+    if masks_to_client(session, header) {
+        return Err(Refusal::Masked);
     }
-    0
+    Ok(())
 }
 
-// 9, 10, 11: of a control frame.
-fn doom_control(fin: bool, length: u64, close: bool) -> u8
-    ensures { result ≡ first_of ((9 when not fin) ∷ (10 when ltb 125 length) ∷ (11 when both close (eqb length 1)) ∷ []) }
+// Of a control frame: 9 to 11.
+#[tactic(auto, unfolding(base::specs::Tests::first_of))]
+fn doom_control(header: FrameHeader, kind: Control) -> Result<(), Refusal>
+    ensures { numbered result ≡ first_of ((9 when not header.fin) ∷ (10 when ltb 125 header.length) ∷ (11 when both (is_close_kind kind) (eqb header.length 1)) ∷ []) }
 {
-    if fin {
-        if 125 < length {
-            return 10;
-        }
-        if close {
-            if length == 1 {
-                return 11;
-            }
-        }
-        return 0;
+    if !header.fin {
+        return Err(Refusal::ControlNotFinal);
     }
-    9
+    if 125 < header.length {
+        return Err(Refusal::ControlTooLong);
+    }
+    if matches!(kind, Control::Close) && header.length == 1 {
+        return Err(Refusal::OneByteClose);
+    }
+    Ok(())
 }
 
 // The bytes of the message before this frame.
-pub(crate) fn bytes_before(incoming: Incoming) -> usize
-    ensures { result ≡ before incoming }
+#[tactic(auto, unfolding(session::specs::Frames::before))]
+pub(crate) fn bytes_before(incoming: &Incoming) -> usize
+    ensures { result ≡ before incoming.now }
 {
     if incoming.begun {
-        return incoming.fragments;
+        incoming.fragments
+    } else {
+        0
     }
-    0
 }
 
-// Whether a message with this frame is over the limit. The sum is tested by a difference, which can't wrap.
-fn is_over(message: usize, length: u64, before: usize) -> bool
-    ensures { result ≡ ltb message (before + length) }
+// Whether a message with so many bytes more is over the limit. The sum is tested by a difference, which can't wrap.
+fn is_over(limit: usize, length: u64, before: usize) -> bool
+    ensures { result ≡ ltb limit (before + length) }
 {
-    let limit = message as u64;
-    if limit < length {
-        return true;
+    match (limit as u64).checked_sub(length) {
+        Some(room) => room < before as u64,
+        None => true,
     }
-    limit - length < (before as u64)
 }
 
-// 13, 14: a continuation with nothing begun, or a new message inside another.
-fn misplaced(begun: bool, continues: bool) -> u8
-    ensures { result ≡ first_of ((13 when both continues (not begun)) ∷ (14 when both (not continues) begun) ∷ []) }
+// Of a data frame: 13 to 15.
+#[tactic(auto, unfolding(base::specs::Tests::first_of))]
+fn doom_data(session: &Session, header: FrameHeader, kind: Data) -> Result<(), Refusal>
+    ensures { numbered result ≡ first_of ((13 when both (is_continue_kind kind) (not session.now.incoming.begun)) ∷ (14 when both (not (is_continue_kind kind)) session.now.incoming.begun) ∷ (15 when ltb session.now.settings.message (before session.now.incoming + header.length)) ∷ []) }
 {
-    if continues {
-        if begun {
-            return 0;
-        }
-        return 13;
+    match (kind, session.incoming.begun) {
+        (Data::Continue, false) => return Err(Refusal::NothingBegun),
+        (Data::Text | Data::Binary, true) => return Err(Refusal::InsideMessage),
+        _ => (),
     }
-    if begun {
-        return 14;
+    if is_over(
+        session.settings.message,
+        header.length,
+        bytes_before(&session.incoming),
+    ) {
+        return Err(Refusal::MessageTooLong);
     }
-    0
+    Ok(())
 }
 
-// 13, 14, 15: of a data frame.
-fn doom_data(message: usize, length: u64, before: usize, begun: bool, continues: bool) -> u8
-    ensures { result ≡ first_of ((13 when both continues (not begun)) ∷ (14 when both (not continues) begun) ∷ (15 when ltb message (before + length)) ∷ []) }
+// The first of these, where there is one.
+pub(crate) fn doom(session: &Session, header: FrameHeader) -> Result<(), Refusal>
+    ensures { numbered result ≡ doom session.now.settings session.now.state header session.now.incoming }
 {
-    let number = misplaced(begun, continues);
-    if number != 0 {
-        return number;
-    }
-    if is_over(message, length, before) {
-        return 15;
-    }
-    0
-}
-
-// The first of these numbers that is given, or 0.
-pub(crate) fn doom_of(settings: Settings, state: u8, header: FrameHeader, incoming: Incoming) -> u8
-    ensures { result ≡ doom settings state header incoming }
-{
-    let any = doom_any(settings, state, header);
-    if any != 0 {
-        return any;
-    }
-    let opcode = header.opcode;
-    match opcode {
-        OpCode::Reserved(_) => 0,
-        OpCode::Control(kind) => {
-            doom_control(header.fin, header.length, crate::kinds::is_close_kind(kind))
-        }
-        OpCode::Data(kind) => doom_data(
-            settings.message,
-            header.length,
-            bytes_before(incoming),
-            incoming.begun,
-            crate::kinds::is_continue_kind(kind),
-        ),
+    doom_any(session, header)?;
+    match header.opcode {
+        OpCode::Reserved(_) => Ok(()),
+        OpCode::Control(kind) => doom_control(header, kind),
+        OpCode::Data(kind) => doom_data(session, header, kind),
     }
 }

@@ -4,6 +4,5 @@
 
 mod doom;
 mod finish;
-mod kinds;
 mod payload;
 pub mod pump;

@@ -11,4 +11,4 @@ pub returns-then-text : goal.returns-then-text
 unfolding part scanned
 returns-then-text c =
     let n : c.args.at + c.args.n - c.args.at ≡ c.args.n = omega arith in
-    ap (λ (x : Scanned). x.progress) c.scan-scanned.ensures ∙ rw (c.progress_of.ensures, n, c.if-text.true)
+    ap (λ (x : Scanned). x.progress) c.scan.ensures ∙ rw (c.progress_of.ensures, n, c.if-text.true)

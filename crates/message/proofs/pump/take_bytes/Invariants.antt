@@ -4,22 +4,22 @@ use mathlib.Core.List.{List}
 use Prim.Native.Nat.{ℕ, ◌+◌, ◌*◌, ◌-◌, ◌≤◌}
 use lib.ListN.{length, take}
 use Rattle.session.specs.declared.Answer.TheVariants.{More}
-use Rattle.session.specs.declared.Incoming.{Incoming}
-use Rattle.session.specs.declared.Settings.{Settings}
+use Rattle.session.specs.declared.Session.{Session}
 use Rattle.session.specs.Reading.{world, after, settle, feed}
+use Rattle.session.specs.Session.{with_incoming}
 use Rattle.message.proofs.pump.take_bytes.Given as goal
 
-pub record Going (g : Settings) (state : ℕ) (piece m₀ c₀ : List ℕ) (i₀ : Incoming) (m c : List ℕ) (i : Incoming) (at : ℕ) : Type 0 where
+pub record Going (piece m₀ c₀ : List ℕ) (s₀ : Session) (m c : List ℕ) (s : Session) (at : ℕ) : Type 0 where
   pub within : at ≤ length piece
   pub message_length : length m ≡ length m₀
   pub control_length : length c ≡ length c₀
-  pub message_room : g.message ≤ length m
-  pub control_room : 125 ≤ length c
-  pub few : i.kept ≤ 14
-  pub fed : after (settle g state (world i m c More)) at ≡ feed g state (after (settle g state (world i₀ m₀ c₀ More)) 0) (take at piece)
+  pub rest : s ≡ with_incoming s₀ s.incoming
+  pub few : s.incoming.kept ≤ 14
+  pub fed : after (settle s₀.settings s₀.state (world s.incoming m c More)) at
+      ≡ feed s₀.settings s₀.state (after (settle s₀.settings s₀.state (world s₀.incoming m₀ c₀ More)) 0) (take at piece)
 
-abbrev pub invariant-loop-at : goal.invariant-loop-at
-invariant-loop-at l = Going l.settings l.state l.piece l.initial.message l.initial.control l.initial.next l.message l.control l.next l.at
+abbrev pub invariant-loop-next : goal.invariant-loop-next
+invariant-loop-next l = Going l.piece l.initial.message l.initial.control l.initial.session l.message l.control l.session l.at
 
-abbrev pub decreases-loop-at : goal.decreases-loop-at
-decreases-loop-at l = 15 * (length l.piece - l.at) + l.next.kept
+abbrev pub decreases-loop-next : goal.decreases-loop-next
+decreases-loop-next l = 15 * (length l.piece - l.at) + l.session.incoming.kept
