@@ -12,8 +12,8 @@ use Rattle.stores.proofs.to_front.Reads as to-front-reads
 pub copy_one : OneStore 2 copy.ps copy.r (λ κs e. e.1.0.now) copy-reads.Post
 copy_one κs a z z' e e' p q = p ∙ sym q
 
--- the store, its fifth argument
-pub put_one : OneStore 2 put.ps put.r (λ κs e. e.1.1.1.1.0.now) put_reads.Post
+-- the store, its fourth argument
+pub put_one : OneStore 2 put.ps put.r (λ κs e. e.1.1.1.0.now) put_reads.Post
 put_one κs a z z' e e' p q = p ∙ sym q
 
 -- the store, its first argument

@@ -4,8 +4,7 @@
 ghost use Rattle.std.specs.Prelude.{◌≡◌, ◌+◌, ◌-◌, ◌≤◌, length};
 ghost use Rattle.base.specs.Bytes.{part};
 ghost use Rattle.base.specs.Stores.{laid};
-ghost use Rattle.base.specs.Table.{pick};
-ghost use Rattle.mask.specs.Mask.{masked};
+ghost use Rattle.stores.specs.Framed.{framed};
 
 // Lays a piece over the store from place `at` on.
 pub fn copy(piece: &[u8], store: &mut [u8], at: usize)
@@ -15,16 +14,15 @@ pub fn copy(piece: &[u8], store: &mut [u8], at: usize)
     store[at..at + piece.len()].copy_from_slice(piece);
 }
 
-// Lays a piece of a payload, from its byte `position` on, over the store from place `at` on: masked or unmasked where the frame is masked,
-// and else as it is.
-pub fn put(masking: bool, mask: [u8; 4], position: usize, piece: &[u8], store: &mut [u8], at: usize)
+// Lays a piece of a payload, from its byte `position` on, over the store from place `at` on: masked or unmasked where the frame has a mask, and
+// else as it is.
+pub fn put(mask: Option<[u8; 4]>, position: usize, piece: &[u8], store: &mut [u8], at: usize)
     requires { at + length piece.now ≤ length store.old }
-    ensures { store.new ≡ laid store.old at (pick masking (masked mask position piece.now) piece.now) }
+    ensures { store.new ≡ laid store.old at (framed mask position piece.now) }
 {
-    if masking {
-        mask::apply_mask(piece, store, at, mask, position);
-    } else {
-        copy(piece, store, at);
+    match mask {
+        Some(mask) => mask::apply_mask(piece, store, at, mask, position),
+        None => copy(piece, store, at),
     }
 }
 
