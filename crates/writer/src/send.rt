@@ -10,7 +10,7 @@ use session::refusal::Refusal;
 use session::{Handed, Masks, Session};
 
 // What a sending call is refused with before its frame is measured: 20, 1, 2, 17, 18, in that order.
-#[tactic(auto, unfolding(base::specs::Tests::first_of, session::specs::Calls::send_tests, session::specs::Calls::held_number, session::specs::Calls::output_short))]
+#[tactic(auto, using(crate::proofs::Numbers::owed_first), unfolding(base::specs::Tests::first_of, session::specs::Calls::send_tests, session::specs::Calls::held_number, session::specs::Calls::output_short))]
 fn sendable(session: &Session, bad: bool, output: &[u8]) -> Result<(), Refusal>
     ensures { numbered result ≡ first_of (send_tests session.now output.now bad) }
 {
@@ -24,7 +24,7 @@ fn sendable(session: &Session, bad: bool, output: &[u8]) -> Result<(), Refusal>
 }
 
 // One final frame whose payload is `lead` and then the piece, and then the waiting reply. The session is then in the state given.
-#[tactic(auto, using(session::proofs::Refusals::number_some, replies::proofs::Encoding::fits_by), unfolding(base::specs::Tests::first_of, session::specs::Replies::appended, session::specs::Calls::send_frame, session::specs::Calls::send_tests, session::specs::Calls::output_short))]
+#[tactic(auto, using(session::proofs::Refusals::number_some), unfolding(base::specs::Tests::first_of, session::specs::Calls::send_frame, session::specs::Calls::send_tests, session::specs::Calls::output_short))]
 fn send_frame(
     session: &mut Session,
     state: u8,
