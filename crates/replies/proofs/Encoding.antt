@@ -8,6 +8,8 @@ use native.Mathlib.Omega.{arith}
 use borrow.Author.Tests.{leb-true}
 use lib.Dec.{leb}
 use lib.ListN.{length, length-append}
+use Rattle.std.specs.Prelude.{Option}
+use Rattle.std.specs.Bool.{then_some}
 use Rattle.base.specs.Stores.{laid}
 use Rattle.base.specs.Table.{pick}
 use Rattle.base.proofs.Stores.{laid-append}
@@ -17,11 +19,17 @@ use Rattle.frame.specs.Header.{header_bytes, header_size}
 use Rattle.frame.proofs.Headers.{length-header_bytes}
 use Rattle.mask.specs.Mask.{masked}
 use Rattle.mask.proofs.Laws.{length-masked, masked-append}
+use Rattle.stores.specs.Framed.{framed}
 use Rattle.session.specs.Replies.{frame_header, encoded, fits}
 
 -- a payload from its byte i on, masked or as it is
 abbrev pub carried : Bool → List ℕ → ℕ → List ℕ → List ℕ
 carried client mask i p = pick client (masked mask i p) p
+
+-- as the store is given it
+framed_by : (client : Bool) (mask : List ℕ) {key : Option (List ℕ)} → key ≡ then_some client mask → (i : ℕ) (p : List ℕ) → framed key i p ≡ carried client mask i p
+framed_by true mask k i p = rw k
+framed_by false mask k i p = rw k
 
 pub length-carried : (client : Bool) (mask : List ℕ) (i : ℕ) (p : List ℕ) → length (carried client mask i p) ≡ length p
 length-carried true mask i p = length-masked mask i p
@@ -62,10 +70,13 @@ module _ (client : Bool) (op : OpCode) (mask s t : List ℕ) (four : length mask
       length-encoded client op mask (s ++ t) four ∙ rw (length-append s t) in
       omega arith
 
-  pub laid-frame : (d : List ℕ) {x y z : List ℕ} → x ≡ laid d at (header_bytes h mask) → y ≡ laid x behind (carried client mask 0 s)
-      → z ≡ laid y (behind + length s) (carried client mask (length s) t) → z ≡ laid d at (encoded client op mask (s ++ t))
+  pub laid-frame : (d : List ℕ) {x y z : List ℕ} {key : Option (List ℕ)} → key ≡ then_some client mask → x ≡ laid d at (header_bytes h mask)
+      → y ≡ laid x behind (framed key 0 s) → z ≡ laid y (behind + length s) (framed key (length s) t)
+      → z ≡ laid d at (encoded client op mask (s ++ t))
   unfolding encoded
-  laid-frame d {x} {y} {z} q u v =
+  laid-frame d {x} {y} {z} k q first second =
+      let u : y ≡ laid x behind (carried client mask 0 s) = first ∙ rw (framed_by client mask k 0 s) in
+      let v : z ≡ laid y (behind + length s) (carried client mask (length s) t) = second ∙ rw (framed_by client mask k (length s) t) in
       let b : List ℕ = header_bytes h mask in
       let e : header_bytes (frame_header client op (length (s ++ t))) mask ≡ b = rw (length-append s t, ← header) in
       let after_header : at + length b ≡ behind = ap (λ (k : ℕ). at + k) (length-header_bytes h mask four) ∙ sym place in

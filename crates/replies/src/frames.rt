@@ -45,7 +45,8 @@ pub fn put_frame(
 {
     let size = lead.len() + piece.len();
     let behind = frame::header::format(frame_header(client, opcode, size), mask, output, at);
-    stores::put(client, mask, 0, lead, output, behind);
-    stores::put(client, mask, lead.len(), piece, output, behind + lead.len());
+    let key = client.then_some(mask);
+    stores::put(key, 0, lead, output, behind);
+    stores::put(key, lead.len(), piece, output, behind + lead.len());
     behind + size
 }

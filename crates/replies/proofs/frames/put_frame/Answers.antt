@@ -10,5 +10,5 @@ returns c =
     let four : length c.args.mask ≡ 4 = search rules in (
       behind-frame c.args.client c.args.opcode c.args.mask c.args.lead.now c.args.piece.now four c.frame_header.ensures c.args.at c.format-behind.ensures.0,
       laid-frame c.args.client c.args.opcode c.args.mask c.args.lead.now c.args.piece.now four c.frame_header.ensures c.args.at c.format-behind.ensures.0
-          c.args.output.now c.format-behind.ensures.1 c.put.ensures c.put-2.ensures,
+          c.args.output.now c.then_some-key.ensures c.format-behind.ensures.1 c.put.ensures c.put-2.ensures,
     )
