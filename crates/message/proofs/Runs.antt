@@ -2,20 +2,19 @@
 use mathlib.Core.Path.{◌≡◌, refl, sym, ap, ap₂, ◌∙◌}
 use mathlib.Core.Bool.{Bool, true, false}
 use mathlib.Core.List.{List, [], ◌∷◌, ◌++◌}
-use Prim.Native.Nat.{ℕ, suc, ◌+◌, ◌-◌, ◌<◌, ◌≤◌}
+use Prim.Native.Nat.{ℕ, suc, ◌+◌, ◌<◌, ◌≤◌}
 use native.Mathlib.Omega.{arith}
 use lib.Dec.{eqb, ltb}
 use lib.ListN.{length, get_or}
 use borrow.Author.Tests.{lt-leb, lt-ltb, eq-eqb, ne_eqb}
 use Rattle.std.specs.Prelude.{Option, None, Some}
-use Rattle.std.specs.Option.{unwrap_or}
 use Rattle.base.specs.Bytes.{part}
 use Rattle.base.specs.Stores.{laid}
 use Rattle.base.specs.Table.{pick}
 use Rattle.base.specs.Tests.{both}
 use Rattle.base.proofs.Stores.{laid-append, laid-part}
 use Rattle.frame.specs.declared.header.FrameHeader.{FrameHeader}
-use Rattle.frame.specs.Header.{second_of, size_by, missing, no_mask, mask_in, mask_given}
+use Rattle.frame.specs.Header.{second_of, header_of, mask_in, mask_given}
 use Rattle.mask.specs.Mask.{masked}
 use Rattle.mask.proofs.Laws.{masked-append, length-masked}
 use Rattle.session.specs.declared.Answer.{Answer}
@@ -24,6 +23,7 @@ use Rattle.session.specs.declared.Incoming.{Incoming}
 use Rattle.session.specs.declared.Settings.{Settings}
 use Rattle.session.specs.Frames.{kept, header_whole, frame, is_control, is_text, before, progress_now, doom_tests, doom}
 use Rattle.session.specs.Reading.{World, world, after, plain, counts, stored, rest, byte_in, step, feed}
+use Rattle.stores.specs.Framed.{framed}
 use Rattle.utf8.specs.Progress.{progress_after}
 use Rattle.utf8.proofs.Laws.{progress_append}
 use Rattle.base.proofs.Choice.{by_test}
@@ -51,17 +51,14 @@ module _ (i : Incoming) (n p : ℕ) where
   doom-on g state = refl
 
 -- ---- the mask that is read
-given-or : (h : List ℕ) → unwrap_or (mask_given h) no_mask ≡ mask_in h
-unfolding mask_given mask_in
-given-or h = go (eqb (missing h) 0) (second_of (get_or h 1 0)).masked (part (size_by (get_or h 1 0) - 4) 4 h)
+pub plain_framed : (i : Incoming) (vs : List ℕ) {mask : Option (List ℕ)} → header_whole i ≡ true → mask ≡ mask_given (kept i) → framed mask i.counted vs ≡ plain i vs
+unfolding plain frame header_of header_whole mask_given
+plain_framed i vs h e =
+    ap (λ (o : Option (List ℕ)). framed o i.counted vs) e ∙ rw h (go (second_of (get_or (kept i) 1 0)).masked)
   where
-    go : (a b : Bool) (l : List ℕ) → unwrap_or (pick (both a b) (Some (pick a (pick b l no_mask) no_mask)) None) no_mask ≡ pick a (pick b l no_mask) no_mask
-    go true true l = refl
-    go true false l = refl
-    go false b l = refl
-
-pub mask_kept : (i : Incoming) {o : Option (List ℕ)} {mask : List ℕ} → o ≡ mask_given (kept i) → mask ≡ unwrap_or o no_mask → mask ≡ mask_in (kept i)
-mask_kept i p q = q ∙ ap (λ (o : Option (List ℕ)). unwrap_or o no_mask) p ∙ given-or (kept i)
+    go : (b : Bool) → framed (pick (both true b) (Some (mask_in (kept i))) None) i.counted vs ≡ pick b (masked (mask_in (kept i)) i.counted vs) vs
+    go true = refl
+    go false = refl
 
 -- ---- a run in two parts
 pub length-plain : (i : Incoming) (vs : List ℕ) → length (plain i vs) ≡ length vs
@@ -103,40 +100,32 @@ module _ (g : Settings) (state : ℕ) (i : Incoming) (m c : List ℕ) (vs : List
   clear : doom g state f i ≡ 0 → eqb (doom g state (frame i) i) 0 ≡ true
   clear h = eq-eqb (doom g state (frame i) i) 0 (ap (λ (x : FrameHeader). doom g state x i) (sym kept-one) ∙ h)
 
-  plain_by : {mask : List ℕ} → (f.masked ≡ true → mask ≡ mask_in (kept i)) → pick f.masked (masked mask i.counted vs) vs ≡ plain i vs
-  unfolding plain
-  plain_by e =
-      let same : f.masked ≡ (frame i).masked = ap (λ (x : FrameHeader). x.masked) kept-one in
-      by_test f.masked
-      (λ t. rw (t, sym same ∙ t) (ap (λ (k : List ℕ). masked k i.counted vs) (e t)))
-      (λ t. rw (t, sym same ∙ t))
-
-  pub run-control : {j : Incoming} {mask d : List ℕ} → doom g state f i ≡ 0 → is_control f.opcode ≡ true → (f.masked ≡ true → mask ≡ mask_in (kept i))
-      → d ≡ laid c i.counted (pick f.masked (masked mask i.counted vs) vs) → j ≡ counts i (length vs) i.progress
+  pub run-control : {j : Incoming} {mask : Option (List ℕ)} {d : List ℕ} → doom g state f i ≡ 0 → is_control f.opcode ≡ true → header_whole i ≡ true → mask ≡ mask_given (kept i)
+      → d ≡ laid c i.counted (framed mask i.counted vs) → j ≡ counts i (length vs) i.progress
       → world j m d More ≡ stored g state (world i m c More) vs
-  run-control h t k e q =
-      ap₂ (λ (x : Incoming) (y : List ℕ). world x m y More) q (e ∙ ap (laid c i.counted) (plain_by k))
+  run-control h t w k e q =
+      ap₂ (λ (x : Incoming) (y : List ℕ). world x m y More) q (e ∙ ap (laid c i.counted) (plain_framed i vs w k))
       ∙ sym (stored-control g state i m c More vs (clear h) (ap (λ (x : FrameHeader). is_control x.opcode) (sym kept-one) ∙ t))
 
-  pub run-data : {j : Incoming} {mask d : List ℕ} {at p : ℕ} → doom g state f i ≡ 0 → is_control f.opcode ≡ false → (f.masked ≡ true → mask ≡ mask_in (kept i))
-      → at ≡ before i + i.counted → d ≡ laid m at (pick f.masked (masked mask i.counted vs) vs)
+  pub run-data : {j : Incoming} {mask : Option (List ℕ)} {d : List ℕ} {at p : ℕ} → doom g state f i ≡ 0 → is_control f.opcode ≡ false → header_whole i ≡ true → mask ≡ mask_given (kept i)
+      → at ≡ before i + i.counted → d ≡ laid m at (framed mask i.counted vs)
       → p ≡ pick (is_text f i) (progress_after (progress_now i) (plain i vs)) i.progress → j ≡ counts i (length vs) p
       → world j d c More ≡ stored g state (world i m c More) vs
-  run-data h t k a e r q =
+  run-data h t w k a e r q =
       ap₂ (λ (x : Incoming) (y : List ℕ). world x y c More)
       (q ∙ ap (counts i (length vs)) (r ∙ ap (λ (x : FrameHeader). pick (is_text x i) (progress_after (progress_now i) (plain i vs)) i.progress) kept-one))
-      (e ∙ ap₂ (λ (n : ℕ) (l : List ℕ). laid m n l) a (plain_by k))
+      (e ∙ ap₂ (λ (n : ℕ) (l : List ℕ). laid m n l) a (plain_framed i vs w k))
       ∙ sym (stored-data g state i m c More vs (clear h) (ap (λ (x : FrameHeader). is_control x.opcode) (sym kept-one) ∙ t))
 
   -- what was laid is what the check looks at
-  pub run-checked : {mask d : List ℕ} (at : ℕ) {p : ℕ} {t : Bool} → (f.masked ≡ true → mask ≡ mask_in (kept i)) → d ≡ laid m at (pick f.masked (masked mask i.counted vs) vs)
+  pub run-checked : {mask : Option (List ℕ)} {d : List ℕ} (at : ℕ) {p : ℕ} {t : Bool} → header_whole i ≡ true → mask ≡ mask_given (kept i) → d ≡ laid m at (framed mask i.counted vs)
       → at + length vs ≤ length m → t ≡ is_text f i → p ≡ pick t (progress_after (progress_now i) (part at (length vs) d)) i.progress
       → p ≡ pick (is_text f i) (progress_after (progress_now i) (plain i vs)) i.progress
-  run-checked at k e h q r =
+  run-checked at w k e h q r =
       let n : length (plain i vs) ≡ length vs = length-plain i vs in
       let room : at + length (plain i vs) ≤ length m = omega (arith, n) in
       let back : part at (length vs) (laid m at (plain i vs)) ≡ plain i vs = ap (λ (x : ℕ). part at x (laid m at (plain i vs))) (sym n) ∙ laid-part m at (plain i vs) room in
-      r ∙ ap₂ (λ (t : Bool) (l : List ℕ). pick t (progress_after (progress_now i) l) i.progress) q (ap (part at (length vs)) (e ∙ ap (laid m at) (plain_by k)) ∙ back)
+      r ∙ ap₂ (λ (t : Bool) (l : List ℕ). pick t (progress_after (progress_now i) l) i.progress) q (ap (part at (length vs)) (e ∙ ap (laid m at) (plain_framed i vs w k)) ∙ back)
 
 -- ---- one byte and then the rest
 progress_on : (i : Incoming) (q : ℕ) → progress_now (counts i 1 q) ≡ q

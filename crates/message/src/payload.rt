@@ -3,7 +3,7 @@ ghost use Rattle.std.specs.Prelude.{◌≡◌, true, ◌+◌, ◌≤◌, ◌<◌
 ghost use Rattle.base.specs.Bytes.{part};
 ghost use Rattle.base.specs.Table.{pick};
 ghost use Rattle.base.specs.Tests.{first_of};
-ghost use Rattle.session.specs.Frames.{frame, header_tests, is_control, is_text, progress_now};
+ghost use Rattle.session.specs.Frames.{header_whole, frame, header_tests, is_control, is_text, progress_now};
 ghost use Rattle.session.specs.Reading.{world, counts, stored};
 ghost use Rattle.session.specs.Session.{with_incoming};
 ghost use Rattle.utf8.specs.Progress.{progress_after};
@@ -74,6 +74,7 @@ fn lay_run(
     control: &mut [u8],
 ) -> u8
     requires header_kept { header ≡ frame session.now.incoming }
+    requires header_is_whole { header_whole session.now.incoming ≡ true }
     requires header_legal { first_of (header_tests session.now.settings header) ≡ 0 }
     requires few_kept { session.now.incoming.kept ≤ 14 }
     requires run_fits { session.now.incoming.counted + length run.now ≤ header.length }
@@ -85,14 +86,14 @@ fn lay_run(
     if doom(session, header).is_err() {
         return incoming.progress;
     }
-    let mask = frame::header::mask_of(&incoming.header[..incoming.kept]).unwrap_or([0; 4]);
+    let mask = frame::header::mask_of(&incoming.header[..incoming.kept]);
     let counted = incoming.counted;
     if is_control(header.opcode) {
-        stores::put(header.masked, mask, counted, run, control, counted);
+        stores::put(mask, counted, run, control, counted);
         return incoming.progress;
     }
     let at = bytes_before(incoming) + counted;
-    stores::put(header.masked, mask, counted, run, message, at);
+    stores::put(mask, counted, run, message, at);
     checked(is_text(incoming, header), incoming, message, at, run.len())
 }
 
@@ -105,6 +106,7 @@ pub(crate) fn store(
     control: &mut [u8],
 )
     requires header_kept { header ≡ frame session.old.incoming }
+    requires header_is_whole { header_whole session.old.incoming ≡ true }
     requires header_legal { first_of (header_tests session.old.settings header) ≡ 0 }
     requires few_kept { session.old.incoming.kept ≤ 14 }
     requires run_fits { session.old.incoming.counted + length run.now ≤ header.length }
@@ -127,6 +129,7 @@ pub(crate) fn store_some(
     control: &mut [u8],
 )
     requires header_kept { header ≡ frame session.old.incoming }
+    requires header_is_whole { header_whole session.old.incoming ≡ true }
     requires header_legal { first_of (header_tests session.old.settings header) ≡ 0 }
     requires few_kept { session.old.incoming.kept ≤ 14 }
     requires run_fits { 0 < length run.now → session.old.incoming.counted + length run.now ≤ header.length }

@@ -6,7 +6,7 @@ use lib.ListN.{length}
 use borrow.Author.Rules.{rules}
 use Rattle.base.proofs.Stores.{length-laid}
 use Rattle.message.proofs.Dooms.{refused, not_refused, control_fits, data_fits}
-use Rattle.message.proofs.Runs.{run-doomed, run-control, run-data, run-checked, mask_kept}
+use Rattle.message.proofs.Runs.{run-doomed, run-control, run-data, run-checked}
 use Rattle.message.proofs.payload.lay_run.Goals as goal
 
 pub returns-then-is_err : goal.returns-then-is_err
@@ -26,7 +26,7 @@ returns-then-is_control c =
     let s = c.args.session.now in
     let clear = not_refused c.doom.result c.doom.ensures c.is_err.ensures.value c.if-is_err.false in
     run-control s.settings s.state s.incoming c.args.message.now c.args.control.now c.args.run.now c.args.header c.requires.header_kept
-    clear (sym c.is_control.ensures ∙ c.if-is_control.true) (λ t. mask_kept s.incoming c.mask_of.ensures c.unwrap_or-mask.ensures) c.put.ensures refl
+    clear (sym c.is_control.ensures ∙ c.if-is_control.true) c.requires.header_is_whole c.mask_of-mask.ensures c.put.ensures refl
 
 pub overflow_add-at : goal.overflow_add-at
 overflow_add-at c =
@@ -57,9 +57,8 @@ returns c =
     let other = sym c.is_control.ensures ∙ c.if-is_control.false in
     let fits = data_fits s.settings s.state c.args.header s.incoming _ _ c.requires.header_legal clear other c.requires.run_fits c.requires.message_room in
     let room : c.bytes_before.result + s.incoming.counted + length c.args.run.now ≤ length c.args.message.now = omega (arith, c.bytes_before.ensures, fits) in
-    let mask = mask_kept s.incoming c.mask_of.ensures c.unwrap_or-mask.ensures in
     run-data s.settings s.state s.incoming c.args.message.now c.args.control.now c.args.run.now c.args.header c.requires.header_kept
-    clear other (λ t. mask) (ap (λ (n : ℕ). n + s.incoming.counted) c.bytes_before.ensures) c.put-2.ensures
+    clear other c.requires.header_is_whole c.mask_of-mask.ensures (ap (λ (n : ℕ). n + s.incoming.counted) c.bytes_before.ensures) c.put-2.ensures
     (run-checked s.settings s.state s.incoming c.args.message.now c.args.control.now c.args.run.now c.args.header c.requires.header_kept
-    _ (λ t. mask) c.put-2.ensures room c.is_text.ensures c.checked.ensures)
+    _ c.requires.header_is_whole c.mask_of-mask.ensures c.put-2.ensures room c.is_text.ensures c.checked.ensures)
     refl

@@ -11,6 +11,9 @@ use Rattle.message.proofs.pump.take_within.Goals as goal
 pub store-requires-clause-header_kept : goal.store-requires-clause-header_kept
 store-requires-clause-header_kept c = sym (frame-there _ _ (sym c.requires.header_kept ∙ c.in-Some.is))
 
+pub store-requires-clause-header_is_whole : goal.store-requires-clause-header_is_whole
+store-requires-clause-header_is_whole c = whole_there _ _ (sym c.requires.header_kept ∙ c.in-Some.is)
+
 pub returns-in-Some-clause-taken : goal.returns-in-Some-clause-taken
 returns-in-Some-clause-taken c = λ t.
     let s = c.args.session.now in
