@@ -9,12 +9,11 @@ use lib.Dec.{eqb, leb}
 use lib.ListN.{length, get_or, set, take, length-set}
 use lib.Seq.{take-suc, take_all, take-take, take-suc-set, length-take-le}
 use borrow.Author.Tests.{eq-eqb}
+use Rattle.std.specs.Prelude.{Option, None, Some}
 use Rattle.base.specs.Table.{pick}
 use Rattle.base.specs.Tests.{first_of}
 use Rattle.coding.specs.Opcodes.{opcode_of, opcode_number}
 use Rattle.frame.specs.declared.header.FrameHeader.{FrameHeader}
-use Rattle.frame.specs.declared.header.Parsed.{Parsed}
-use Rattle.frame.specs.declared.header.Parsed.TheVariants.{Lacking, Whole}
 use Rattle.frame.specs.Header.{missing, header_of, parsed, header_bytes, plain_size, header_size}
 use Rattle.frame.proofs.Headers.{length-header_bytes}
 use Rattle.frame.proofs.ReadBack.{header-read_back, lacking_before}
@@ -81,27 +80,27 @@ keep-last i [] b = refl
 keep-last i (a ∷ bs) b = keep-last (keep i a) bs b
 
 -- ---- what reading a header says of what is missing
-abbrev Told : Parsed → Type 0
-Told (Whole f) = Unit
-Told Lacking = ⊥
+abbrev Told : Option FrameHeader → Type 0
+Told (Some f) = Unit
+Told None = ⊥
 
-abbrev said : FrameHeader → Parsed → FrameHeader
-said other (Whole f) = f
-said other Lacking = other
+abbrev said : FrameHeader → Option FrameHeader → FrameHeader
+said other (Some f) = f
+said other None = other
 
-not_parsed : (h : List ℕ) → parsed h ≡ Lacking → eqb (missing h) 0 ≡ false
+not_parsed : (h : List ℕ) → parsed h ≡ None → eqb (missing h) 0 ≡ false
 unfolding parsed
 not_parsed h = go (eqb (missing h) 0) (header_of h)
   where
-    go : (b : Bool) (f : FrameHeader) → pick b (Whole f) Lacking ≡ Lacking → b ≡ false
+    go : (b : Bool) (f : FrameHeader) → pick b (Some f) None ≡ None → b ≡ false
     go true f e = absurd (subst Told e tt)
     go false f e = refl
 
-is_parsed : (h : List ℕ) (f : FrameHeader) → parsed h ≡ Whole f → (eqb (missing h) 0 ≡ true) × (header_of h ≡ f)
+is_parsed : (h : List ℕ) (f : FrameHeader) → parsed h ≡ Some f → (eqb (missing h) 0 ≡ true) × (header_of h ≡ f)
 unfolding parsed
 is_parsed h f = go (eqb (missing h) 0) (header_of h)
   where
-    go : (b : Bool) (x : FrameHeader) → pick b (Whole x) Lacking ≡ Whole f → (b ≡ true) × (x ≡ f)
+    go : (b : Bool) (x : FrameHeader) → pick b (Some x) None ≡ Some f → (b ≡ true) × (x ≡ f)
     go true x e = (refl, ap (said x) e)
     go false x e = absurd (subst Told (sym e) tt)
 
@@ -161,7 +160,7 @@ module _ (f : FrameHeader) (mask : List ℕ) (four : length mask ≡ 4) (i : Inc
       ∙ not_parsed (take k bytes) (lacking_before f mask four k h)
 
   module _ (opcode : opcode_of (opcode_number f.opcode % 16) ≡ f.opcode) (short : f.length < 18446744073709551616) where
-    read : parsed bytes ≡ Whole f
+    read : parsed bytes ≡ Some f
     read = ap parsed (sym (append-nil bytes)) ∙ header-read_back f mask four [] opcode short
 
     pub bytes_kept : kept (keep_all i bytes) ≡ bytes

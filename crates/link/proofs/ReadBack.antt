@@ -7,6 +7,7 @@ use native.Mathlib.Omega.{arith}
 use lib.Dec.{ltb}
 use lib.ListN.{length, take, drop}
 use borrow.Author.Tests.{ltb-false, not-false}
+use Rattle.std.specs.Prelude.{Option, None, Some}
 use Rattle.base.specs.Bytes.{part, to_big}
 use Rattle.base.specs.Stores.{laid}
 use Rattle.base.specs.Tests.{both, either}
@@ -19,16 +20,14 @@ use Rattle.frame.specs.Close.{close_bytes}
 use Rattle.frame.specs.Header.{header_bytes}
 use Rattle.session.specs.Calls.{Read, read, turn, flagged, read_call, Sending, text_call, binary_call, ping_call, closing_bytes, close_call}
 use Rattle.session.specs.declared.Answer.TheVariants.{Text, Binary}
-use Rattle.session.specs.declared.Closing.{Closing}
-use Rattle.session.specs.declared.Closing.TheVariants.{Empty, Code}
 use Rattle.session.specs.declared.Incoming.{Incoming}
 use Rattle.session.specs.declared.Masks.{Masks}
-use Rattle.session.specs.declared.Sent.TheVariants.{Done}
 use Rattle.session.specs.declared.Session.{Session}
 use Rattle.session.specs.declared.Waiting.{Waiting}
 use Rattle.session.specs.declared.Waiting.TheVariants.{Nothing as NoReply, Pong as PongReply, Close as CloseReply}
 use Rattle.session.specs.Frames.{is_close_kind, reason_holds}
 use Rattle.session.specs.Reading.{between as between_frames, control_event}
+use Rattle.session.specs.Refusals.{Done}
 use Rattle.session.specs.Replies.{frame_header, encoded, is_close_reply, reply_code, reply_frame, Concluded, conclude, move_reply}
 use Rattle.session.specs.Session.{is_server, is_client, is_peer_closed, with_incoming}
 use Rattle.utf8.specs.Progress.{progress_after, is_whole}
@@ -39,10 +38,10 @@ use Rattle.link.proofs.HeaderBack.{keep_all}
 use Rattle.link.proofs.Sent.{sent-puts, put_bytes, not_bad}
 
 -- no close of one byte can be asked for
-pub not_one : (closing : Closing) (reason : List ℕ) → length (closing_bytes closing reason) ≡ 1 → ⊥
+pub not_one : (code : Option ℕ) (reason : List ℕ) → length (closing_bytes code reason) ≡ 1 → ⊥
 unfolding close_bytes to_big
-not_one Empty reason h = absurd (omega arith)
-not_one (Code n) reason h = absurd (omega arith)
+not_one None reason h = absurd (omega arith)
+not_one (Some n) reason h = absurd (omega arith)
 
 pub holds : (p : List ℕ) → is_whole (progress_after 0 (drop 2 p)) ≡ true → reason_holds p ≡ true
 unfolding reason_holds
@@ -123,22 +122,22 @@ module _ (s : Session) (p : List ℕ) (given : Masks) (output : List ℕ) (four 
       meets.fits meets.short PingFrame end few room (λ t. never t refl) (λ t. never t refl)
 
 -- a close, empty or with a code and a reason: what is shown is what document 01 says of such a close
-module _ (s : Session) (closing : Closing) (reason : List ℕ) (given : Masks) (output : List ℕ) (four : length given.first ≡ 4) (r : Session) (masks : Masks)
-    (m c o : List ℕ) (end : Bool) (meets : Meets (is_client s.settings) r masks m c o (length (closing_bytes closing reason))) where
-  pub close_reads_back : (close_call s closing reason given output).handed.sent ≡ Done → 125 ≤ length c
-      → read_call r (put_out s (encoded (is_client s.settings) (Control CloseFrame) given.first (closing_bytes closing reason)) (close_call s closing reason given output)) end masks
+module _ (s : Session) (code : Option ℕ) (reason : List ℕ) (given : Masks) (output : List ℕ) (four : length given.first ≡ 4) (r : Session) (masks : Masks)
+    (m c o : List ℕ) (end : Bool) (meets : Meets (is_client s.settings) r masks m c o (length (closing_bytes code reason))) where
+  pub close_reads_back : (close_call s code reason given output).handed.sent ≡ Done → 125 ≤ length c
+      → read_call r (put_out s (encoded (is_client s.settings) (Control CloseFrame) given.first (closing_bytes code reason)) (close_call s code reason given output)) end masks
       m c o
-      ≡ control_read s (closing_bytes closing reason) given output four r masks m c o end meets CloseFrame
+      ≡ control_read s (closing_bytes code reason) given output four r masks m c o end meets CloseFrame
   unfolding close_call
   close_reads_back h room =
-      let p : List ℕ = closing_bytes closing reason in
+      let p : List ℕ = closing_bytes code reason in
       let bad : Bool = either (ltb 125 (length p)) (not (is_whole (progress_after 0 (drop 2 p)))) in
       let good = either-not (ltb 125 (length p)) (not (is_whole (progress_after 0 (drop 2 p)))) (not_bad s 1 (Control CloseFrame) bad p given output h) in
       let few : length p ≤ 125 = ltb-false 125 (length p) good.0 in
       ap (λ (l : List ℕ). read_call r l end masks m c o)
       (put_bytes s.held output (encoded (is_client s.settings) (Control CloseFrame) given.first p) _ (sent-puts s 1 (Control CloseFrame) bad p given output h))
       ∙ control_read_back r masks m c o meets.ready (is_client s.settings) given.first p four meets.to_server meets.to_client meets.heard
-      meets.fits meets.short CloseFrame end few room (λ t. not_one closing reason) (λ t. holds p (not-false (is_whole (progress_after 0 (drop 2 p))) good.1))
+      meets.fits meets.short CloseFrame end few room (λ t. not_one code reason) (λ t. holds p (not-false (is_whole (progress_after 0 (drop 2 p))) good.1))
 
 -- ---- a reply that moved reads back as itself: the pong or the close that waited
 abbrev pub reply_kind : Waiting → ControlKind

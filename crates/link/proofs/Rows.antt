@@ -12,12 +12,11 @@ use Rattle.session.proofs.Choices.{both-parts}
 use Rattle.session.specs.Calls.{stores_short, Read, turn, read, read_tests, read_call, Sending, waits_call, take_call}
 use Rattle.session.specs.declared.Answer.{Answer}
 use Rattle.session.specs.declared.Answer.TheVariants.{Refused}
-use Rattle.session.specs.declared.Sent.{Sent}
-use Rattle.session.specs.declared.Sent.TheVariants.{Done, Refused as NotSent}
 use Rattle.session.specs.declared.Waiting.{Waiting}
 use Rattle.session.specs.declared.Waiting.TheVariants.{Nothing}
 use Rattle.session.specs.declared.Session.{Session}
 use Rattle.session.specs.Range.{limits_hold, in_range}
+use Rattle.session.specs.Refusals.{Sent, Done, Refused as NotSent}
 use Rattle.session.specs.Session.{is_terminated}
 use Rattle.steady.proofs.Headers.{never}
 use Rattle.steady.specs.Taking.{is_done}

@@ -4,6 +4,7 @@ use mathlib.Core.Bool.{true, false}
 use mathlib.Core.List.{List, [], ◌∷◌, ◌++◌}
 use Prim.Native.Nat.{ℕ}
 use lib.ListN.{replicate}
+use Rattle.std.specs.Prelude.{None, Some}
 use Rattle.base.specs.Bytes.{part, from_big, to_big}
 use Rattle.base.specs.Stores.{laid}
 use Rattle.base.specs.Table.{value_at}
@@ -16,7 +17,6 @@ use Rattle.mask.specs.Mask.{masked}
 use Rattle.session.specs.Answers.{beyond, part_of}
 use Rattle.session.specs.Calls.{no_incoming, empty_reply, fresh, new_call, output_short, stores_short, read_tests, flagged, take_bytes, read_on, read_call, send_tests, send_frame, text_call, binary_call, ping_call, close_call, pong_call, waits_call, held_number, held_part, take_tests, take_call}
 use Rattle.session.specs.declared.Answer.TheVariants.{More, Text, Binary, Ping, Pong, Close, Closed, Refused}
-use Rattle.session.specs.declared.Closing.TheVariants.{Empty, Code}
 use Rattle.session.specs.declared.Waiting.TheVariants.{Nothing, Pong as PongWaits}
 use Rattle.session.specs.Frames.{header_whole, frame, is_text, header_tests, before, progress_now, doom_tests, doom, reason_holds, text_holds, utf_test, verdict}
 use Rattle.session.specs.Range.{limits_hold, settings_hold, header_holds, count_holds, incoming_holds, reply_holds, numbers_hold, range_of, in_range}
@@ -50,7 +50,7 @@ client_closes =
     ∷ by_server reads_all (gives (Text 2) 5)
     ∷ by_server (send_binary (0x00 ∷ 0xff ∷ []) key) accepted
     ∷ by_client (send_ping (0x21 ∷ []) key) accepted
-    ∷ by_client (send_close (Code 1000) [] key) accepted
+    ∷ by_client (send_close (Some 1000) [] key) accepted
     ∷ by_client (takes 15) accepted
     ∷ by_server reads_all (gives (Ping 1) 7)
     ∷ by_server reads_all (gives (Close 2) 8)
@@ -67,7 +67,7 @@ client_closes =
 unfoldable pub server_closes : List Row
 server_closes =
     by_server (send_text (0x79 ∷ []) key) accepted
-    ∷ by_server (send_close Empty [] key) accepted
+    ∷ by_server (send_close None [] key) accepted
     ∷ by_server (takes 5) accepted
     ∷ by_client (send_ping [] key) accepted
     ∷ by_client (takes 6) accepted
@@ -85,8 +85,8 @@ server_closes =
 unfoldable pub closes_cross : List Row
 closes_cross =
     by_client (send_binary (0x01 ∷ []) key) accepted
-    ∷ by_client (send_close (Code 1000) [] key) accepted
-    ∷ by_server (send_close (Code 1001) (0x6f ∷ 0x6b ∷ []) key) accepted
+    ∷ by_client (send_close (Some 1000) [] key) accepted
+    ∷ by_server (send_close (Some 1001) (0x6f ∷ 0x6b ∷ []) key) accepted
     ∷ by_server (takes 6) accepted
     ∷ by_client (takes 15) accepted
     ∷ by_client reads_all (gives (Close 4) 6)
@@ -164,7 +164,7 @@ pong_moves =
 unfoldable pub echo_waits : List Row
 echo_waits =
     by_server (send_binary (replicate 127 7) key) accepted
-    ∷ by_client (send_close Empty [] key) accepted
+    ∷ by_client (send_close None [] key) accepted
     ∷ by_client (takes 6) accepted
     ∷ by_server reads_all (gives (Close 0) 6)
     ∷ by_server reads_all (gives (Refused 19) 0)
@@ -185,7 +185,7 @@ refused_calls =
     ∷ by_server (send_pong (0x70 ∷ []) key) accepted
     ∷ by_server (takes 4) (refused 20)
     ∷ by_server (send_text (0xff ∷ []) key) (refused 18)
-    ∷ by_client (send_close (Code 1000) [] key) accepted
+    ∷ by_client (send_close (Some 1000) [] key) accepted
     ∷ by_client (send_text hi key) (refused 17)
     ∷ by_client (send_binary (replicate 126 0) key) (refused 17)
     ∷ by_client (send_pong [] key) (refused 17)

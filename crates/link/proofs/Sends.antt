@@ -7,6 +7,7 @@ use native.Mathlib.Omega.{arith}
 use lib.Dec.{eqb, ltb}
 use lib.ListN.{length, drop}
 use borrow.Author.Tests.{eqb-true, ltb-false, not-false}
+use Rattle.std.specs.Prelude.{Option}
 use Rattle.base.specs.Table.{pick}
 use Rattle.base.specs.Tests.{either, first_of}
 use Rattle.base.proofs.Choice.{by_test}
@@ -16,15 +17,14 @@ use Rattle.coding.specs.declared.opcode.Data.TheVariants.{Text as TextFrame, Bin
 use Rattle.coding.specs.declared.opcode.OpCode.{OpCode}
 use Rattle.coding.specs.declared.opcode.OpCode.TheVariants.{Data, Control}
 use Rattle.session.specs.Calls.{Sending, sending, send_tests, send_frame, text_call, binary_call, ping_call, closing_bytes, close_call, pong_call, waits_call}
-use Rattle.session.specs.declared.Closing.{Closing}
 use Rattle.session.specs.declared.Reply.{Reply}
-use Rattle.session.specs.declared.Sent.TheVariants.{Done}
 use Rattle.session.specs.declared.Session.{Session}
 use Rattle.session.specs.declared.Settings.{Settings}
 use Rattle.session.specs.declared.Waiting.{Waiting}
 use Rattle.session.specs.declared.Waiting.TheVariants.{Nothing as NoReply, Pong as PongReply, Close as CloseReply}
 use Rattle.session.specs.Frames.{is_close}
 use Rattle.session.specs.Range.{in_range, waits}
+use Rattle.session.specs.Refusals.{Done}
 use Rattle.session.specs.Replies.{is_close_reply, reply_of, with_pong, Out, out, appended, move_reply}
 use Rattle.session.specs.Session.{is_client, is_active, with_reply}
 use Rattle.steady.specs.Taking.{is_done}
@@ -186,7 +186,7 @@ module _ (l r : Side) (v : Inv l r) (k : Keys) where
   none_waits_lem PongReply h = never refl h
   none_waits_lem CloseReply h = never refl h
 
-  pub close_inv : (code : Closing) (reason : List ℕ) → NoneWaits mine (close_to mine code reason k) → Inv (sent l (close_to mine code reason k) [] true) r
+  pub close_inv : (code : Option ℕ) (reason : List ℕ) → NoneWaits mine (close_to mine code reason k) → Inv (sent l (close_to mine code reason k) [] true) r
   unfolding close_call waits_call
   close_inv code reason good =
       let p : List ℕ = closing_bytes code reason in

@@ -19,10 +19,9 @@ use Rattle.base.proofs.Tests.{first_clear}
 use Rattle.coding.specs.declared.opcode.OpCode.{OpCode}
 use Rattle.session.specs.Calls.{output_short, Sending, sending, send_tests, send_frame}
 use Rattle.session.specs.declared.Masks.{Masks}
-use Rattle.session.specs.declared.Sent.{Sent}
-use Rattle.session.specs.declared.Sent.TheVariants.{Done, Refused}
 use Rattle.session.specs.declared.Session.{Session}
 use Rattle.session.specs.Range.{waits}
+use Rattle.session.specs.Refusals.{Sent, Done, Refused}
 use Rattle.session.specs.Replies.{encoded, fits, reply_frame, Out, appended, move_reply}
 use Rattle.session.specs.Session.{is_client, is_active, with_state, with_held}
 use Rattle.session.proofs.Choices.{both-parts}

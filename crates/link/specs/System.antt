@@ -1,12 +1,11 @@
 -- Two ends joined by two pipes (demand 3). Every act is a public call's definition applied to the side's own session and stores, and what
 -- counts is read off its answers.
-use Rattle.std.specs.Prelude.{Bool, true, false, List, [], ◌∷◌, ◌++◌, ℕ, eqb, leb, length, take, drop}
+use Rattle.std.specs.Prelude.{Bool, true, false, List, [], ◌∷◌, ◌++◌, ℕ, Option, eqb, leb, length, take, drop}
 use Rattle.base.specs.Table.{pick, within}
 use Rattle.base.specs.Tests.{both, either}
 use Rattle.session.specs.Answers.{kind, part_of}
 use Rattle.session.specs.Calls.{Read, read_call, Sending, text_call, binary_call, ping_call, pong_call, close_call, held_part, take_call, new_call}
 use Rattle.session.specs.declared.Answer.{Answer}
-use Rattle.session.specs.declared.Closing.{Closing}
 use Rattle.session.specs.declared.Masks.{Masks}
 use Rattle.session.specs.declared.Role.{Role}
 use Rattle.session.specs.declared.Role.TheVariants.{Server, Client}
@@ -145,7 +144,7 @@ read_from y n =
 -- ---- what the caller of a side, or chance, does with it
 pub data Act : Type 0 where
   send_text send_binary send_ping send_pong : List ℕ → Keys → Act
-  send_close : Closing → List ℕ → Keys → Act
+  send_close : Option ℕ → List ℕ → Keys → Act
   takes : ℕ → Act
   reads : ℕ → Bool → Keys → Act
   cuts : ℕ → Act
@@ -163,7 +162,7 @@ ping_to e p k = ping_call e.session p (masks k) e.output
 abbrev pub pong_to : End → List ℕ → Keys → Sending
 pong_to e p k = pong_call e.session p (masks k) e.output
 
-abbrev pub close_to : End → Closing → List ℕ → Keys → Sending
+abbrev pub close_to : End → Option ℕ → List ℕ → Keys → Sending
 close_to e code reason k = close_call e.session code reason (masks k) e.output
 
 -- the system after an act of the left side
