@@ -58,7 +58,8 @@ impl From<Role> for u8 {
     }
 }
 
-// A session with these limits, Active; or a refusal beside one that is Terminated.
+// A session with these limits, Active; or a refusal beside one that is Terminated. Kept: `new_call` promises that session too, and drive
+// goes on with it.
 #[tactic(auto, unfolding(crate::specs::Calls::new_call))]
 pub fn new(role: Role, frame: usize, message: usize, unmasked: bool) -> Handed
     ensures { handed (sent_of result.sent) result.session ≡ new_call role frame message unmasked }
