@@ -1,6 +1,6 @@
 // The two kinds of place. They are different types, so that a listing can't show the one for the other.
 ghost use Rattle.std.specs.Prelude.{◌≡◌};
-ghost use Rattle.capture.specs.Places.{onward, file_onward, stream_onward};
+ghost use Rattle.capture.specs.Places.{file_onward, stream_onward};
 
 // A place in the capture file: so many of its bytes stand before it.
 #[derive(Clone, Copy)]
@@ -10,25 +10,23 @@ pub struct FilePlace(pub u64);
 #[derive(Clone, Copy)]
 pub struct StreamPlace(pub u64);
 
-// The place n bytes behind, or the last one that 64 bits can count.
-fn sum(place: u64, n: usize) -> u64
-    ensures { result ≡ onward place n }
-{
-    let more = n as u64;
-    if u64::MAX - place < more {
-        return u64::MAX;
+// Kept: a method of each, not of a trait, which would have more lines than the two.
+impl FilePlace {
+    // The place n bytes behind, or the last one that 64 bits can count.
+    #[tactic(auto, unfolding(crate::specs::Places::onward, crate::specs::Places::file_onward))]
+    pub(crate) fn onward(self, n: usize) -> FilePlace
+        ensures { result ≡ file_onward self n }
+    {
+        FilePlace(self.0.saturating_add(n as u64))
     }
-    place + more
 }
 
-pub(crate) fn file_onward(place: FilePlace, n: usize) -> FilePlace
-    ensures { result ≡ file_onward place n }
-{
-    FilePlace(sum(place.0, n))
-}
-
-pub(crate) fn stream_onward(place: StreamPlace, n: usize) -> StreamPlace
-    ensures { result ≡ stream_onward place n }
-{
-    StreamPlace(sum(place.0, n))
+impl StreamPlace {
+    // The same of the stream.
+    #[tactic(auto, unfolding(crate::specs::Places::onward, crate::specs::Places::stream_onward))]
+    pub(crate) fn onward(self, n: usize) -> StreamPlace
+        ensures { result ≡ stream_onward self n }
+    {
+        StreamPlace(self.0.saturating_add(n as u64))
+    }
 }

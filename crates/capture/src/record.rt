@@ -1,7 +1,6 @@
 // The records of a capture file.
-ghost use Rattle.std.specs.Prelude.{◌≡◌, eqb};
-ghost use Rattle.base.specs.Tests.{both};
-ghost use Rattle.capture.specs.Records.{mark_of, short, by_mark, input_in, found_in};
+ghost use Rattle.std.specs.Prelude.{◌≡◌};
+ghost use Rattle.capture.specs.Records.{mark_of, short, input_in, found_in};
 
 #[derive(Clone, Copy)]
 pub enum Mark {
@@ -9,7 +8,6 @@ pub enum Mark {
     Client,
     Input,
     End,
-    Unknown,
 }
 
 // What the bytes of a file from a mark's place on begin with: a record that lacks bytes, which may still come; one that is cut short or
@@ -24,81 +22,55 @@ pub enum Found {
     End,
 }
 
-fn is_pair(first: u8, second: u8, a: u8, b: u8) -> bool
-    ensures { result ≡ both (eqb first a) (eqb second b) }
-{
-    if first == a {
-        return second == b;
-    }
-    false
-}
-
-fn mark_of(first: u8, second: u8) -> Mark
+// The mark that two bytes are.
+#[tactic(auto, unfolding(crate::specs::Records::mark_of))]
+fn mark_of(first: u8, second: u8) -> Option<Mark>
     ensures { result ≡ mark_of first second }
 {
-    if is_pair(first, second, b'R', b'S') {
-        return Mark::Server;
+    match (first, second) {
+        (b'R', b'S') => Some(Mark::Server),
+        (b'R', b'C') => Some(Mark::Client),
+        (b'I', b'N') => Some(Mark::Input),
+        (b'E', b'N') => Some(Mark::End),
+        _ => None,
     }
-    if is_pair(first, second, b'R', b'C') {
-        return Mark::Client;
-    }
-    if is_pair(first, second, b'I', b'N') {
-        return Mark::Input;
-    }
-    if is_pair(first, second, b'E', b'N') {
-        return Mark::End;
-    }
-    Mark::Unknown
 }
 
 // A record that is not all there.
+#[tactic(auto, unfolding(crate::specs::Records::short))]
 fn cut_short(ended: bool) -> Found
     ensures { result ≡ short ended }
 {
-    if ended {
-        return Found::Bad;
-    }
-    Found::Lacking
+    if ended { Found::Bad } else { Found::Lacking }
 }
 
-fn wide(byte: u8) -> usize
-    ensures { result ≡ byte }
-{
-    byte as usize
-}
-
+#[tactic(auto, unfolding(crate::specs::Records::input_in, crate::specs::Records::input_length))]
 fn input(window: &[u8], ended: bool) -> Found
     ensures { result ≡ input_in window.now ended }
 {
-    if window.len() < 4 {
+    let [_, _, high, low, bytes @ ..] = window else {
         return cut_short(ended);
-    }
-    let count = wide(window[2]) * 256 + wide(window[3]);
-    if window.len() - 4 < count {
+    };
+    let count = usize::from(u16::from_be_bytes([*high, *low]));
+    if bytes.len() < count {
         return cut_short(ended);
     }
     Found::Input(count)
 }
 
-fn by_mark(mark: Mark, window: &[u8], ended: bool) -> Found
-    ensures { result ≡ by_mark mark window.now ended }
-{
-    match mark {
-        Mark::Server => Found::Server,
-        Mark::Client => Found::Client,
-        Mark::Input => input(window, ended),
-        Mark::End => Found::End,
-        Mark::Unknown => Found::Bad,
-    }
-}
-
 // What the file goes on with. `ended` says that no byte follows behind the window.
+#[tactic(auto, unfolding(crate::specs::Records::found_in))]
 pub fn find(window: &[u8], ended: bool) -> Found
     ensures { result ≡ found_in window.now ended }
 {
-    if window.len() < 2 {
+    let [first, second, ..] = window else {
         return cut_short(ended);
+    };
+    match mark_of(*first, *second) {
+        Some(Mark::Server) => Found::Server,
+        Some(Mark::Client) => Found::Client,
+        Some(Mark::Input) => input(window, ended),
+        Some(Mark::End) => Found::End,
+        None => Found::Bad,
     }
-    let mark = mark_of(window[0], window[1]);
-    by_mark(mark, window, ended)
 }

@@ -1,14 +1,14 @@
 // The listing, handed out line by line.
-ghost use Rattle.std.specs.Prelude.{◌≡◌, Bool, not, List, ℕ, ◌+◌, ◌≤◌, ltb, length};
+ghost use Rattle.std.specs.Prelude.{◌≡◌, Bool, List, ℕ, ◌+◌, ◌≤◌, length};
 ghost use Rattle.base.specs.Stores.{laid};
 ghost use Rattle.base.specs.Table.{pick};
 ghost use Rattle.lines.specs.Text.{Wrote};
 ghost use Rattle.steady.specs.Cutting.{is_final};
-ghost use Rattle.capture.specs.Listing.{zero_masks, made, put_text, refused_text, bad_text, answer_text};
-ghost use Rattle.capture.specs.Steps.{begun, with_due, stepped, step, lastly, in_role, in_record, role_text, role_stepped, record_text, record_stepped, due_after, by_due, step_call};
+ghost use Rattle.capture.specs.Listing.{made, put_text, refused_text, bad_text, answer_text};
+ghost use Rattle.capture.specs.Steps.{begun, stepped, step, lastly, in_role, in_record, role_text, role_stepped, record_text, record_stepped, due_after, by_due, step_call};
 
 use crate::place::{FilePlace, StreamPlace};
-use crate::record::Found;
+use crate::record::{self, Found};
 use session::{Answer, Masks, Role, Session};
 
 // What is to be done next: the role record, a record, a call on what is left of a record, the taking of the output that a call left, the
@@ -54,30 +54,29 @@ pub struct Stepped {
     pub replay: Replay,
 }
 
+// The room that the longest line may need.
+const LINE_ROOM: usize = 65600;
+
+const ZERO_MASKS: Masks = Masks {
+    first: [0; 4],
+    second: [0; 4],
+};
+
 // The session of a capture: both limits are 32,768, and frames to a server are masked.
+#[tactic(auto, unfolding(crate::specs::Listing::made))]
 fn make(role: Role) -> Session
     ensures { result ≡ made role }
 {
-    let handed = session::new::new(role, 32768, 32768, false);
-    handed.session
-}
-
-fn zero_masks() -> Masks
-    ensures { result ≡ zero_masks }
-{
-    Masks {
-        first: [0; 4],
-        second: [0; 4],
-    }
+    session::new::new(role, 32768, 32768, false).session
 }
 
 // A replay before its first step. No role is known yet: the session only fills its place.
+#[tactic(auto, unfolding(crate::specs::Steps::begun))]
 pub fn begin() -> Replay
     ensures { result ≡ begun }
 {
-    let session = make(Role::Server);
     Replay {
-        session,
+        session: make(Role::Server),
         due: Due::Role,
         left: 0,
         end: false,
@@ -86,133 +85,99 @@ pub fn begin() -> Replay
     }
 }
 
-// The replay with another session and something else due.
-fn with_due(replay: Replay, session: Session, due: Due) -> Replay
-    ensures { result ≡ with_due replay session due }
-{
-    let file = replay.file;
-    let stream = replay.stream;
-    Replay {
-        session,
-        due,
-        left: replay.left,
-        end: replay.end,
-        file,
-        stream,
-    }
-}
-
-// Whether the longest line has room from place `at` on.
-fn has_room(size: usize, at: usize) -> bool
-    ensures { result ≡ not (ltb size (at + 65600)) }
-{
-    if size < 65600 {
-        return false;
-    }
-    if size - 65600 < at {
-        return false;
-    }
-    true
-}
-
 // The capture is bad at the place where a mark is due.
+#[tactic(auto, unfolding(crate::specs::Steps::lastly, crate::specs::Listing::bad_text))]
 fn bad(replay: Replay, out: &mut [u8], at: usize) -> Stepped
     requires { at + 65600 ≤ length out.old }
     ensures { (result ≡ lastly replay (length (bad_text replay.file.0))) × (out.new ≡ laid out.old at (bad_text replay.file.0)) }
 {
-    let file = replay.file;
-    let behind = lines::line::put_at_place(b"capture bad", file.0, out, at);
-    let session = replay.session;
+    let behind = lines::line::put_at_place(b"capture bad", replay.file.0, out, at);
     Stepped {
         came: Came::Last(behind - at),
         used: 0,
-        replay: with_due(replay, session, Due::Nothing),
+        replay: Replay {
+            due: Due::Nothing,
+            ..replay
+        },
     }
 }
 
 // The role is known, and the first record is due.
+#[tactic(auto, unfolding(crate::specs::Steps::in_role))]
 fn in_role(replay: Replay, role: Role) -> Stepped
     ensures { result ≡ in_role replay role }
 {
-    let session = make(role);
-    let file = crate::place::file_onward(replay.file, 2);
-    let stream = replay.stream;
-    let next = Replay {
-        session,
-        due: Due::Record,
-        left: 0,
-        end: false,
-        file,
-        stream,
-    };
     Stepped {
         came: Came::Line(0),
         used: 2,
-        replay: next,
+        replay: Replay {
+            session: make(role),
+            due: Due::Record,
+            left: 0,
+            end: false,
+            file: replay.file.onward(2),
+            stream: replay.stream,
+        },
     }
 }
 
 // A record's head is used, and a call on its n bytes is due.
+#[tactic(auto, unfolding(crate::specs::Steps::in_record))]
 fn in_record(replay: Replay, head: usize, n: usize, end: bool) -> Stepped
     ensures { result ≡ in_record replay head n end }
 {
-    let session = replay.session;
-    let file = crate::place::file_onward(replay.file, head);
-    let stream = replay.stream;
-    let next = Replay {
-        session,
-        due: Due::Call,
-        left: n,
-        end,
-        file,
-        stream,
-    };
     Stepped {
         came: Came::Line(0),
         used: head,
-        replay: next,
+        replay: Replay {
+            due: Due::Call,
+            left: n,
+            end,
+            file: replay.file.onward(head),
+            ..replay
+        },
     }
 }
 
-fn lacking(replay: Replay) -> Stepped
-    ensures { result ≡ stepped Came.Lacking 0 replay }
+// A step that does nothing.
+fn still(came: Came, replay: Replay) -> Stepped
+    ensures { result ≡ stepped came 0 replay }
 {
     Stepped {
-        came: Came::Lacking,
+        came,
         used: 0,
         replay,
     }
 }
 
+#[tactic(auto, using(base::proofs::Stores::laid_none))]
 fn at_role(replay: Replay, found: Found, out: &mut [u8], at: usize) -> Stepped
     requires { at + 65600 ≤ length out.old }
     ensures { (result ≡ role_stepped replay found) × (out.new ≡ laid out.old at (role_text replay found)) }
 {
     match found {
-        Found::Lacking => lacking(replay),
+        Found::Lacking => still(Came::Lacking, replay),
         Found::Server => in_role(replay, Role::Server),
         Found::Client => in_role(replay, Role::Client),
-        Found::Bad => bad(replay, out, at),
-        Found::Input(_) => bad(replay, out, at),
-        Found::End => bad(replay, out, at),
+        Found::Bad | Found::Input(_) | Found::End => bad(replay, out, at),
     }
 }
 
+#[tactic(auto, using(base::proofs::Stores::laid_none))]
 fn at_record(replay: Replay, found: Found, out: &mut [u8], at: usize) -> Stepped
     requires { at + 65600 ≤ length out.old }
     ensures { (result ≡ record_stepped replay found) × (out.new ≡ laid out.old at (record_text replay found)) }
 {
     match found {
-        Found::Lacking => lacking(replay),
+        Found::Lacking => still(Came::Lacking, replay),
         Found::Input(n) => in_record(replay, 4, n, false),
         Found::End => in_record(replay, 2, 0, true),
-        Found::Bad => bad(replay, out, at),
-        Found::Server => bad(replay, out, at),
-        Found::Client => bad(replay, out, at),
+        Found::Bad | Found::Server | Found::Client => bad(replay, out, at),
     }
 }
 
 // A read call on what is left of the record.
+#[tactic(auto, unfolding(crate::specs::Steps::call_stepped, crate::specs::Listing::zero_masks))]
 fn at_call(
     replay: Replay,
     window: &[u8],
@@ -222,52 +187,46 @@ fn at_call(
 ) -> Stepped
     ensures { (out : List ℕ) (at : ℕ) (ended : Bool) → step result message.new control.new output.new out ≡ by_due Due.Call replay window.now ended message.old control.old output.old out at }
 {
-    let left = replay.left;
-    if window.len() < left {
-        return lacking(replay);
-    }
-    let session = replay.session;
+    let Some(piece) = window.get(..replay.left) else {
+        return still(Came::Lacking, replay);
+    };
     let turn = reader::read::read(
-        session,
-        &window[..left],
+        replay.session,
+        piece,
         replay.end,
-        zero_masks(),
+        ZERO_MASKS,
         message,
         control,
         output,
     );
-    let answer = turn.answer;
-    let taken = turn.taken;
-    let after = turn.session;
-    let file = crate::place::file_onward(replay.file, taken);
-    let stream = crate::place::stream_onward(replay.stream, taken);
-    let next = Replay {
-        session: after,
-        due: Due::Put(answer),
-        left: left - taken,
-        end: replay.end,
-        file,
-        stream,
-    };
     Stepped {
         came: Came::Line(0),
-        used: taken,
-        replay: next,
+        used: turn.taken,
+        replay: Replay {
+            session: turn.session,
+            due: Due::Put(turn.answer),
+            left: replay.left - turn.taken,
+            end: replay.end,
+            file: replay.file.onward(turn.taken),
+            stream: replay.stream.onward(turn.taken),
+        },
     }
 }
 
 // The line of the held bytes, if there are any.
+#[tactic(auto, using(base::proofs::Stores::laid_none), unfolding(crate::specs::Listing::put_text))]
 fn put_held(bytes: &[u8], out: &mut [u8], at: usize) -> usize
     requires { (length bytes.now ≤ 32768) × (at + 65600 ≤ length out.old) }
     ensures { Wrote out.old at (put_text bytes.now) out.new result }
 {
-    if bytes.len() == 0 {
+    if bytes.is_empty() {
         return at;
     }
     lines::line::put_counted(b"put", bytes, out, at)
 }
 
 // The output that a call left is listed and taken.
+#[tactic(auto, using(crate::proofs::Stepping::held_most), unfolding(crate::specs::Steps::put_stepped))]
 fn at_put(
     replay: Replay,
     answer: Answer,
@@ -278,15 +237,17 @@ fn at_put(
     requires { at + 65600 ≤ length out.old }
     ensures { (m c window : List ℕ) (ended : Bool) → step result m c output.new out.new ≡ by_due (Due.Put answer) replay window ended m c output.old out.old at }
 {
-    let session = replay.session;
-    let bytes = writer::output::held(session, output);
+    let bytes = writer::output::held(replay.session, output);
     let behind = put_held(bytes, out, at);
-    let taken = writer::output::take(session, session.held, output);
-    let after = taken.session;
+    let taken = writer::output::take(replay.session, replay.session.held, output);
     Stepped {
         came: Came::Line(behind - at),
         used: 0,
-        replay: with_due(replay, after, Due::Told(answer)),
+        replay: Replay {
+            session: taken.session,
+            due: Due::Told(answer),
+            ..replay
+        },
     }
 }
 
@@ -295,7 +256,7 @@ fn put_refused(number: u8, stream: StreamPlace, out: &mut [u8], at: usize) -> us
     ensures { Wrote out.old at (refused_text number stream.0) out.new result }
 {
     let named = lines::line::put_word(b"refused ", out, at);
-    let numbered = lines::number::put_decimal(number as u64, out, named);
+    let numbered = lines::number::put_decimal(u64::from(number), out, named);
     lines::line::put_at_place(b"", stream.0, out, numbered)
 }
 
@@ -316,43 +277,37 @@ fn put_answer(answer: Answer, bytes: &[u8], stream: StreamPlace, out: &mut [u8],
     }
 }
 
+// What is due behind an answer, and a line of n bytes, the last one where the answer is final.
 fn due_after(answer: Answer) -> Due
     ensures { result ≡ due_after answer }
 {
     match answer {
         Answer::More => Due::Record,
-        Answer::Text(_) => Due::Call,
-        Answer::Binary(_) => Due::Call,
-        Answer::Ping(_) => Due::Call,
-        Answer::Pong(_) => Due::Call,
-        Answer::Close(_) => Due::Call,
-        Answer::Closed => Due::Nothing,
-        Answer::Refused(_) => Due::Nothing,
+        Answer::Text(_)
+        | Answer::Binary(_)
+        | Answer::Ping(_)
+        | Answer::Pong(_)
+        | Answer::Close(_) => Due::Call,
+        Answer::Closed | Answer::Refused(_) => Due::Nothing,
     }
 }
 
-// A line of n bytes, the last one where the answer is final.
 fn came_with(answer: Answer, n: usize) -> Came
     ensures { result ≡ pick (is_final answer) (Came.Last n) (Came.Line n) }
 {
     match answer {
-        Answer::More => Came::Line(n),
-        Answer::Text(_) => Came::Line(n),
-        Answer::Binary(_) => Came::Line(n),
-        Answer::Ping(_) => Came::Line(n),
-        Answer::Pong(_) => Came::Line(n),
-        Answer::Close(_) => Came::Line(n),
-        Answer::Closed => Came::Last(n),
-        Answer::Refused(_) => Came::Last(n),
+        Answer::Closed | Answer::Refused(_) => Came::Last(n),
+        _ => Came::Line(n),
     }
 }
 
 // The answer of a call is told.
-fn at_told<'a>(
+#[tactic(auto, unfolding(crate::specs::Steps::told_stepped))]
+fn at_told(
     replay: Replay,
     answer: Answer,
-    message: &'a [u8; 32768],
-    control: &'a [u8; 125],
+    message: &[u8; 32768],
+    control: &[u8; 125],
     out: &mut [u8],
     at: usize,
 ) -> Stepped
@@ -360,18 +315,20 @@ fn at_told<'a>(
     ensures { (o window : List ℕ) (ended : Bool) → step result message.now control.now o out.new ≡ by_due (Due.Told answer) replay window ended message.now control.now o out.old at }
 {
     let bytes = reader::part::part(answer, message, control);
-    let stream = replay.stream;
-    let behind = put_answer(answer, bytes, stream, out, at);
-    let session = replay.session;
+    let behind = put_answer(answer, bytes, replay.stream, out, at);
     Stepped {
         came: came_with(answer, behind - at),
         used: 0,
-        replay: with_due(replay, session, due_after(answer)),
+        replay: Replay {
+            due: due_after(answer),
+            ..replay
+        },
     }
 }
 
 // One step of a replay. `window` is the next bytes of the file that are not used yet, and `ended` says that no byte follows behind them.
 // A line is laid over `out` from place `at` on, where there must be room for the longest.
+#[tactic(auto, unfolding(crate::specs::Steps::step_call))]
 pub fn step(
     replay: Replay,
     window: &[u8],
@@ -384,24 +341,15 @@ pub fn step(
 ) -> Stepped
     ensures { step result message.new control.new output.new out.new ≡ step_call replay window.now ended message.old control.old output.old out.old at }
 {
-    if !has_room(out.len(), at) {
-        return Stepped {
-            came: Came::Full,
-            used: 0,
-            replay,
-        };
+    if out.len().saturating_sub(at) < LINE_ROOM {
+        return still(Came::Full, replay);
     }
-    let due = replay.due;
-    match due {
-        Due::Role => at_role(replay, crate::record::find(window, ended), out, at),
-        Due::Record => at_record(replay, crate::record::find(window, ended), out, at),
+    match replay.due {
+        Due::Role => at_role(replay, record::find(window, ended), out, at),
+        Due::Record => at_record(replay, record::find(window, ended), out, at),
         Due::Call => at_call(replay, window, message, control, output),
         Due::Put(answer) => at_put(replay, answer, output, out, at),
         Due::Told(answer) => at_told(replay, answer, message, control, out, at),
-        Due::Nothing => Stepped {
-            came: Came::Last(0),
-            used: 0,
-            replay,
-        },
+        Due::Nothing => still(Came::Last(0), replay),
     }
 }

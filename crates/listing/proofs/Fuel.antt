@@ -8,6 +8,7 @@ use native.Mathlib.Omega.{arith}
 use lib.Dec.{eqb, ltb}
 use lib.ListN.{length, get_or, drop, length-drop}
 use borrow.Author.Tests.{ltb-false}
+use Rattle.std.proofs.Common.{Option, Some, None}
 use Rattle.base.specs.Table.{pick}
 use Rattle.base.proofs.Choice.{by_test}
 use Rattle.base.specs.Tests.{first_of}
@@ -26,7 +27,7 @@ use Rattle.steady.proofs.OneCall.{call_taken, event_waits, event_takes, ended-an
 use Rattle.capture.specs.declared.record.Found.{Found}
 use Rattle.capture.specs.declared.record.Found.TheVariants.{Lacking, Bad, Server, Client, Input, End}
 use Rattle.capture.specs.declared.record.Mark.{Mark}
-use Rattle.capture.specs.declared.record.Mark.TheVariants.{Server as ServerMark, Client as ClientMark, Input as InputMark, End as EndMark, Unknown}
+use Rattle.capture.specs.declared.record.Mark.TheVariants.{Server as ServerMark, Client as ClientMark, Input as InputMark, End as EndMark}
 use Rattle.capture.specs.Listing.{Tape, zero_masks, called, after_call, after_take, call_lines, Fed, behind, calls_from, fed, Next, bad_record, next_of, records_from, records}
 use Rattle.capture.specs.Places.{onward}
 use Rattle.capture.specs.Records.{mark_of, short, input_length, input_in, by_mark, found_in}
@@ -201,12 +202,12 @@ input_within rest ended =
     by_test (ltb (length rest) (4 + input_length rest)) (λ u. rw (t, u) (short-within ended rest))
     (λ u. rw (t, u) (ltb-false (length rest) (4 + input_length rest) u)))
 
-mark_within : (m : Mark) (rest : List ℕ) (ended : Bool) → 2 ≤ length rest → Within (by_mark m rest ended) rest
-mark_within ServerMark rest ended h = h
-mark_within ClientMark rest ended h = h
-mark_within InputMark rest ended h = input_within rest ended
-mark_within EndMark rest ended h = h
-mark_within Unknown rest ended h = tt
+mark_within : (m : Option Mark) (rest : List ℕ) (ended : Bool) → 2 ≤ length rest → Within (by_mark m rest ended) rest
+mark_within (Some ServerMark) rest ended h = h
+mark_within (Some ClientMark) rest ended h = h
+mark_within (Some InputMark) rest ended h = input_within rest ended
+mark_within (Some EndMark) rest ended h = h
+mark_within None rest ended h = tt
 
 pub found_within : (rest : List ℕ) (ended : Bool) → Within (found_in rest ended) rest
 unfolding found_in

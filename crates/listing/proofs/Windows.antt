@@ -9,6 +9,7 @@ use lib.Dec.{ltb, leb}
 use lib.ListN.{length, get_or, take, drop, length-append, take-append-drop, get_or-append}
 use lib.Seq.{take_all}
 use borrow.Author.Tests.{le-ltb, ltb-false, leb-true}
+use Rattle.std.proofs.Common.{Option, Some, None}
 use Rattle.base.specs.Tests.{both}
 use Rattle.base.specs.Table.{pick}
 use Rattle.base.proofs.Choice.{by_test}
@@ -16,7 +17,7 @@ use Rattle.steady.proofs.Headers.{never}
 use Rattle.capture.specs.declared.record.Found.{Found}
 use Rattle.capture.specs.declared.record.Found.TheVariants.{Lacking, Bad, Server, Client, Input, End}
 use Rattle.capture.specs.declared.record.Mark.{Mark}
-use Rattle.capture.specs.declared.record.Mark.TheVariants.{Server as ServerMark, Client as ClientMark, Input as InputMark, End as EndMark, Unknown}
+use Rattle.capture.specs.declared.record.Mark.TheVariants.{Server as ServerMark, Client as ClientMark, Input as InputMark, End as EndMark}
 use Rattle.capture.specs.Records.{mark_of, short, input_length, input_in, by_mark, found_in}
 
 -- ---- with bytes enough
@@ -65,12 +66,12 @@ module _ (w z : List ℕ) where
       ∙ ap (λ (m : ℕ). pick (ltb (length (w ++ z)) (4 + m)) Bad (Input m)) same
       ∙ rw (le-ltb (length (w ++ z)) (4 + n) (longer (4 + n) k)))))))
 
-  mark_window : (m : Mark) → (by_mark m w false ≡ Lacking) ⊎ (by_mark m w false ≡ by_mark m (w ++ z) true)
-  mark_window ServerMark = inr refl
-  mark_window ClientMark = inr refl
-  mark_window InputMark = input_window
-  mark_window EndMark = inr refl
-  mark_window Unknown = inr refl
+  mark_window : (m : Option Mark) → (by_mark m w false ≡ Lacking) ⊎ (by_mark m w false ≡ by_mark m (w ++ z) true)
+  mark_window (Some ServerMark) = inr refl
+  mark_window (Some ClientMark) = inr refl
+  mark_window (Some InputMark) = input_window
+  mark_window (Some EndMark) = inr refl
+  mark_window None = inr refl
 
   window : (found_in w false ≡ Lacking) ⊎ (found_in w false ≡ found_in (w ++ z) true)
   window =
@@ -80,7 +81,7 @@ module _ (w z : List ℕ) where
       let same : mark_of (get_or (w ++ z) 0 0) (get_or (w ++ z) 1 0) ≡ mark_of (get_or w 0 0) (get_or w 1 0) =
       ap₂ mark_of (get_or-append w z 0 0 (omega arith)) (get_or-append w z 0 1 (omega arith)) in
       let whole : found_in (w ++ z) true ≡ by_mark (mark_of (get_or w 0 0) (get_or w 1 0)) (w ++ z) true =
-      found_long (w ++ z) true (longer 2 h) ∙ ap (λ (m : Mark). by_mark m (w ++ z) true) same in
+      found_long (w ++ z) true (longer 2 h) ∙ ap (λ (m : Option Mark). by_mark m (w ++ z) true) same in
       ⊎_elim (λ e. inl (found_long w false h ∙ e)) (λ e. inr (found_long w false h ∙ e ∙ sym whole)) (mark_window (mark_of (get_or w 0 0) (get_or w 1 0))))
 
 -- the next bytes, with the flag only where they are all
@@ -110,12 +111,12 @@ input_settled rest =
     by_test (ltb (length rest) 4) (λ t. rw t tt)
     (λ t. by_test (ltb (length rest) (4 + input_length rest)) (λ u. rw (t, u) tt) (λ u. rw (t, u) tt))
 
-mark_settled : (m : Mark) (rest : List ℕ) → Settled (by_mark m rest true)
-mark_settled ServerMark rest = tt
-mark_settled ClientMark rest = tt
-mark_settled InputMark rest = input_settled rest
-mark_settled EndMark rest = tt
-mark_settled Unknown rest = tt
+mark_settled : (m : Option Mark) (rest : List ℕ) → Settled (by_mark m rest true)
+mark_settled (Some ServerMark) rest = tt
+mark_settled (Some ClientMark) rest = tt
+mark_settled (Some InputMark) rest = input_settled rest
+mark_settled (Some EndMark) rest = tt
+mark_settled None rest = tt
 
 pub found_settled : (rest : List ℕ) → Settled (found_in rest true)
 unfolding found_in short
