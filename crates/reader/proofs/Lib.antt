@@ -1,5 +1,2 @@
-pub mod Replying
-pub mod Turns
-pub mod Whole
-pub mod Parts
+pub mod Reading
 pub mod OneAnswer

@@ -2,6 +2,7 @@
 use mathlib.Core.Path.{sym, ap, ◌∙◌}
 use Rattle.base.proofs.Promise.{OneAnswer, OneStore, OnePart}
 use Rattle.session.specs.Calls.{Read}
+use Rattle.session.proofs.Refusals.{numbered_one}
 use Rattle.reader.proofs.part.part.Kinds as part
 use Rattle.reader.proofs.part.part.Reads as part-reads
 use Rattle.reader.proofs.part.part_number.Kinds as part-number
@@ -27,4 +28,4 @@ pub part-one : OnePart 1 part.ps part.r (λ κs z. (z.now, z.ref_ptr)) part-read
 part-one κs a z z' e e' p q = λ i. ((p.0 ∙ sym q.0) i, (p.1 ∙ sym q.1) i)
 
 pub part-number_one : OneAnswer 2 part-number.ps part-number.r part-number-reads.Post
-part-number_one κs a z z' e e' p q = p ∙ sym q
+part-number_one κs a z z' e e' p q = numbered_one z z' (p ∙ sym q)

@@ -1,58 +1,47 @@
 // The part of a store that an event shows.
-ghost use Rattle.std.specs.Prelude.{◌≡◌, [], eqb, take};
-ghost use Rattle.base.specs.Table.{pick};
-ghost use Rattle.session.specs.Answers.{beyond, named, part_number, part_of};
+ghost use Rattle.std.specs.Prelude.{◌≡◌, take};
+ghost use Rattle.session.specs.Answers.{shown, beyond, named, part_number, part_of};
+ghost use Rattle.session.specs.Refusals.{numbered};
 
 use session::Answer;
+use session::refusal::Refusal;
 
-// 1 where a store has fewer than n bytes, else 0.
-fn lacks(store: &[u8], n: usize) -> u8
-    ensures { result ≡ beyond store.now n }
-{
-    if store.len() < n {
-        return 1;
-    }
-    0
-}
-
-// The number that asking for an event's part would owe, or 0.
-pub fn part_number(answer: Answer, message: &[u8], control: &[u8]) -> u8
-    ensures { result ≡ part_number answer message.now control.now }
+// The store that an event's kind names, the message store where it names none, and how many of its first bytes the event shows.
+#[tactic(auto, unfolding(session::specs::Answers::beyond))]
+fn shown<'a>(answer: Answer, message: &'a [u8], control: &'a [u8]) -> (&'a [u8], usize)
+    ensures bytes { take result.1 result.0.now ≡ shown answer message.now control.now }
+    ensures size { beyond result.0.now result.1 ≡ part_number answer message.now control.now }
+    ensures place { result.0.ref_ptr ≡ named answer message.entry.ref_ptr control.entry.ref_ptr }
 {
     match answer {
-        Answer::Text(n) => lacks(message, n),
-        Answer::Binary(n) => lacks(message, n),
-        Answer::Ping(n) => lacks(control, n),
-        Answer::Pong(n) => lacks(control, n),
-        Answer::Close(n) => lacks(control, n),
-        Answer::More => 0,
-        Answer::Closed => 0,
-        Answer::Refused(_) => 0,
+        Answer::Text(n) | Answer::Binary(n) => (message, n),
+        Answer::Ping(n) | Answer::Pong(n) | Answer::Close(n) => (control, n),
+        Answer::More | Answer::Closed | Answer::Refused(_) => (message, 0),
     }
 }
 
-// The first n bytes of a store, none where it has fewer.
-fn front(store: &[u8], n: usize) -> &[u8]
-    ensures { (result.now ≡ pick (eqb (beyond store.now n) 0) (take n store.now) []) × (result.ref_ptr ≡ store.entry.ref_ptr) }
+// What asking for an event's part would be refused with.
+#[tactic(auto, unfolding(session::specs::Answers::beyond))]
+pub fn part_number(answer: Answer, message: &[u8], control: &[u8]) -> Result<(), Refusal>
+    ensures { numbered result ≡ part_number answer message.now control.now }
 {
-    if n <= store.len() {
-        return &store[..n];
+    let (store, n) = shown(answer, message, control);
+    if store.len() < n {
+        return Err(Refusal::ShortStore);
     }
-    &store[..0]
+    Ok(())
 }
 
-// The part of the store that the event's kind names; none where a number is owed.
+// The part of the store that the event's kind names; none where the store is short.
+#[tactic(auto, unfolding(session::specs::Answers::beyond, session::specs::Answers::part_of))]
 pub fn part<'a>(answer: Answer, message: &'a [u8], control: &'a [u8]) -> &'a [u8]
     ensures { (result.now ≡ part_of answer message.now control.now) × (result.ref_ptr ≡ named answer message.entry.ref_ptr control.entry.ref_ptr) }
 {
-    match answer {
-        Answer::Text(n) => front(message, n),
-        Answer::Binary(n) => front(message, n),
-        Answer::Ping(n) => front(control, n),
-        Answer::Pong(n) => front(control, n),
-        Answer::Close(n) => front(control, n),
-        Answer::More => &message[..0],
-        Answer::Closed => &message[..0],
-        Answer::Refused(_) => &message[..0],
+    let (store, n) = shown(answer, message, control);
+    // Kept: ranges in place of `get`, which doesn't promise where the part lies.
+    if n <= store.len() {
+        &store[..n]
+    } else {
+        &store[..0]
     }
 }

@@ -1,260 +1,123 @@
 // One read call.
-ghost use Rattle.std.specs.Prelude.{◌≡◌, true, not, List, ◌∷◌, [], ℕ, ◌+◌, ◌-◌, ◌≤◌, eqb, ltb, leb, length};
-ghost use Rattle.base.specs.Tests.{both, either, ◌when◌, first_of};
+ghost use Rattle.std.specs.Prelude.{◌≡◌, ◌≢◌, true, not, List, ◌∷◌, [], ℕ, ◌+◌, ◌-◌, ◌≤◌, leb, length, MatchResult};
+ghost use Rattle.base.specs.Tests.{both, ◌when◌, first_of};
 ghost use Rattle.frame.specs.Header.{header_size, parsed};
-ghost use Rattle.reader.specs.Fit.{Shows};
-ghost use Rattle.reader.specs.Whole.{session_of, flag_answer, flag_state, is_quiet, leaves, left_by};
-ghost use Rattle.session.specs.Calls.{turn, read, take_bytes, read_on, read_call};
-ghost use Rattle.session.specs.declared.Settings.{Settings as Limits};
+ghost use Rattle.session.specs.Calls.{turn, read, stores_short, read_tests, read_on, read_call};
 ghost use Rattle.session.specs.Frames.{kept};
-ghost use Rattle.session.specs.Range.{waits, range_of};
+ghost use Rattle.session.specs.Range.{in_range};
 ghost use Rattle.session.specs.Replies.{is_close_reply};
-ghost use Rattle.session.specs.Session.{is_server, is_client, is_peer_closed, is_terminated};
+ghost use Rattle.session.specs.Session.{is_server, is_client, is_peer_closed};
+ghost use Rattle.steady.specs.Shape.{Shaped};
 
-use frame::header::Parsed;
-use session::{Answer, Incoming, Masks, Reply, Session, Settings, Turn, Waiting};
+use frame::header::FrameHeader;
+use message::pump::Taken;
+use session::refusal::Refusal;
+use session::{Answer, Masks, Session, Turn};
 
-// What the end flag leaves.
-#[derive(Clone, Copy)]
-struct Flagged {
-    answer: Answer,
-    state: u8,
-}
-
-// What a call gives once its reply has moved: the answer, the bytes taken, and the parts of the session that bytes can change.
-#[derive(Clone, Copy)]
-struct Gone {
-    answer: Answer,
-    taken: usize,
-    state: u8,
-    refusal: u8,
-    incoming: Incoming,
-    reply: Reply,
-}
-
-// Whether a store of one of these sizes is below its least size, or the output below the bytes held.
-fn is_short(least: usize, held: usize, message: usize, control: usize, output: usize) -> bool
-    ensures { result ≡ either (ltb message least) (either (ltb control 125) (either (ltb output 131) (ltb output held))) }
+// Whether a store is below its least size, or the output store below the bytes held.
+#[tactic(auto, unfolding(session::specs::Calls::stores_short, session::specs::Calls::output_short))]
+fn is_short(session: &Session, message: &[u8], control: &[u8], output: &[u8]) -> bool
+    ensures { result ≡ stores_short session.now message.now control.now output.now }
 {
-    if message < least {
-        return true;
-    }
-    if control < 125 {
-        return true;
-    }
-    if output < 131 {
-        return true;
-    }
-    if output < held {
-        return true;
-    }
-    false
-}
-
-// The number of a read call before a waiting close is looked at: 20, 1, 2, then the number that the session was refused by, or 0. It takes
-// the session's parts and the sizes of the stores, since no byte is looked at.
-fn read_number(
-    settings: Settings,
-    state: u8,
-    refusal: u8,
-    incoming: Incoming,
-    header: Parsed,
-    waiting: Waiting,
-    count: usize,
-    held: usize,
-    message: usize,
-    control: usize,
-    output: usize,
-) -> u8
-    requires { header ≡ parsed (kept incoming) }
-    ensures { result ≡ first_of ((20 when not (range_of settings state refusal incoming waiting count)) ∷ (1 when either (ltb message settings.message) (either (ltb control 125) (either (ltb output 131) (ltb output held)))) ∷ (2 when is_terminated state) ∷ (refusal when not (eqb refusal 0)) ∷ []) }
-{
-    if !session::range::in_range_by(settings, state, refusal, incoming, header, waiting, count) {
-        return 20;
-    }
-    if is_short(settings.message, held, message, control, output) {
-        return 1;
-    }
-    if state == session::TERMINATED {
-        return 2;
-    }
-    refusal
+    message.len() < session.settings.message
+        || control.len() < 125
+        || output.len() < 131
+        || output.len() < session.held
 }
 
 // Whether a server's waiting close does not fit: it is to go out before anything else is read.
-fn is_stuck(settings: Settings, waiting: Waiting, count: usize, held: usize, size: usize) -> bool
-    requires { held ≤ size }
-    ensures { result ≡ both (is_server settings) (both (is_close_reply waiting) (not (leb (header_size (is_client settings) count + count) (size - held)))) }
+fn is_stuck(session: &Session, size: usize) -> bool
+    requires { session.now.held ≤ size }
+    ensures { result ≡ both (is_server session.now.settings) (both (is_close_reply session.now.reply.waiting) (not (leb (header_size (is_client session.now.settings) session.now.reply.length + session.now.reply.length) (size - session.now.held)))) }
 {
-    if settings.role == session::SERVER {
-        if replies::reply::is_close(waiting) {
-            let client = settings.role == session::CLIENT;
-            return !replies::reply::reply_fits(client, count, held, size);
-        }
-    }
-    false
+    session.settings.role == session::SERVER
+        && replies::reply::is_close(session.reply.waiting)
+        && !replies::reply::reply_fits(session, size)
 }
 
-fn is_peer_closed(state: u8) -> bool
-    ensures { result ≡ is_peer_closed state }
+// What a call is refused with before it takes a byte: 20, 1, 2, what the session was refused with, 19. Kept: the number, which is what a
+// session has of its refusal (document 01).
+#[tactic(auto, unfolding(base::specs::Tests::first_of, session::specs::Calls::read_tests))]
+fn readable(
+    session: &Session,
+    header: Option<FrameHeader>,
+    message: &[u8],
+    control: &[u8],
+    output: &[u8],
+) -> Result<(), u8>
+    requires shaped { Shaped session.now }
+    requires header_kept { header ≡ parsed (kept session.now.incoming) }
+    ensures { (mask : List ℕ) → length mask ≡ 4 → MatchResult result (λ u. first_of (read_tests session.now mask message.now control.now output.now) ≡ 0) (λ n. (n ≢ 0) × (n ≡ first_of (read_tests session.now mask message.now control.now output.now))) }
 {
-    if state == session::CLOSED_BY_PEER {
-        return true;
+    if !session::range::in_range_by(session, header) {
+        return Err(Refusal::OutOfRange.number());
     }
-    if state == session::CLOSE_ACKNOWLEDGED {
-        return true;
+    if is_short(session, message, control, output) {
+        return Err(Refusal::ShortStore.number());
     }
-    false
-}
-
-// The end flag, once the bytes are taken: the answer, and the state.
-fn flag(end: bool, answer: Answer, state: u8) -> Flagged
-    ensures { (result.answer ≡ flag_answer end answer state) × (result.state ≡ flag_state end answer state) }
-{
-    let more = message::pump::is_more(answer);
-    if end {
-        if more {
-            let over = session::TERMINATED;
-            if is_peer_closed(state) {
-                return Flagged {
-                    answer: Answer::Closed,
-                    state: over,
-                };
-            }
-            return Flagged {
-                answer: Answer::Refused(16),
-                state: over,
-            };
-        }
+    if session.state == session::TERMINATED {
+        return Err(Refusal::Terminated.number());
     }
-    Flagged { answer, state }
-}
-
-// What an event leaves, once the flag is looked at. `taken` and `incoming` are passed on.
-fn left_by(
-    answer: Answer,
-    taken: usize,
-    incoming: Incoming,
-    state: u8,
-    refusal: u8,
-    reply: Reply,
-    end: bool,
-    control: &mut [u8],
-) -> Gone
-    requires shows { Shows answer }
-    requires control_room { 125 ≤ length control.old }
-    ensures { (g : Limits) (held : ℕ) → leaves (turn result.answer result.taken (session_of g result.state result.refusal result.incoming result.reply held)) control.new ≡ left_by (session_of g state refusal incoming reply held) answer control.old end taken }
-{
-    let left = crate::conclude::conclude_with(answer, state, refusal, reply, control);
-    let shown = left.answer;
-    let flagged = flag(end, shown, left.state);
-    let told = flagged.answer;
-    let waits = left.reply;
-    Gone {
-        answer: told,
-        taken,
-        state: flagged.state,
-        refusal: left.refusal,
-        incoming,
-        reply: waits,
+    if session.refusal != 0 {
+        return Err(session.refusal);
     }
-}
-
-// Bytes are taken up to one event, the event leaves what it leaves, and then the flag is looked at. The output store is not touched.
-fn take_on(
-    settings: Settings,
-    state: u8,
-    refusal: u8,
-    incoming: Incoming,
-    reply: Reply,
-    piece: &[u8],
-    end: bool,
-    message: &mut [u8],
-    control: &mut [u8],
-) -> Gone
-    requires ranged { range_of settings state refusal incoming reply.waiting reply.length ≡ true }
-    requires message_room { settings.message ≤ length message.old }
-    requires control_room { 125 ≤ length control.old }
-    ensures { (held : ℕ) (output : List ℕ) → read (turn result.answer result.taken (session_of settings result.state result.refusal result.incoming result.reply held)) message.new control.new output ≡ take_bytes (session_of settings state refusal incoming reply held) piece.now end message.old control.old output }
-{
-    let taken = message::pump::take_bytes(settings, state, incoming, piece, message, control);
-    let answer = taken.answer;
-    let come = taken.incoming;
-    left_by(answer, taken.at, come, state, refusal, reply, end, control)
+    if is_stuck(session, output.len()) {
+        return Err(Refusal::NoRoom.number());
+    }
+    Ok(())
 }
 
 // Whether a server's connection is at its end: its peer has closed.
-fn is_over(settings: Settings, state: u8) -> bool
-    ensures { result ≡ both (is_server settings) (is_peer_closed state) }
+fn is_over(session: &Session) -> bool
+    ensures { result ≡ both (is_server session.now.settings) (is_peer_closed session.now.state) }
 {
-    if settings.role == session::SERVER {
-        return is_peer_closed(state);
-    }
-    false
+    session.settings.role == session::SERVER && crate::conclude::is_peer_closed(session.state)
 }
 
-// What a call does once its reply has moved: a server whose peer has closed is done, and else bytes are taken.
+// What a call does once its reply has moved. A server whose peer has closed is done. Else bytes are taken up to one event, the event leaves
+// what it leaves, and then the flag is looked at; most pieces of a long message lie inside a frame, and lead to no event. The output store
+// is not touched.
+#[tactic(auto, unfolding(session::specs::Calls::read_on))]
 fn read_on(
-    settings: Settings,
-    state: u8,
-    refusal: u8,
-    incoming: Incoming,
-    reply: Reply,
+    session: &mut Session,
+    header: Option<FrameHeader>,
     piece: &[u8],
     end: bool,
     message: &mut [u8],
     control: &mut [u8],
-) -> Gone
-    requires ranged { range_of settings state refusal incoming reply.waiting reply.length ≡ true }
-    requires message_room { settings.message ≤ length message.old }
+) -> Taken
+    requires shaped { Shaped session.old }
+    requires ranged { in_range session.old ≡ true }
+    requires header_kept { header ≡ parsed (kept session.old.incoming) }
+    requires message_room { session.old.settings.message ≤ length message.old }
     requires control_room { 125 ≤ length control.old }
-    ensures { (held : ℕ) (output : List ℕ) → read (turn result.answer result.taken (session_of settings result.state result.refusal result.incoming result.reply held)) message.new control.new output ≡ read_on (session_of settings state refusal incoming reply held) piece.now end message.old control.old output }
+    ensures { (output : List ℕ) → read (turn result.answer result.at session.new) message.new control.new output ≡ read_on session.old piece.now end message.old control.old output }
 {
-    if is_over(settings, state) {
-        return Gone {
+    if is_over(session) {
+        session.state = session::TERMINATED;
+        return Taken {
             answer: Answer::Closed,
-            taken: 0,
-            state: session::TERMINATED,
-            refusal,
-            incoming,
-            reply,
+            at: 0,
         };
     }
-    take_on(
-        settings, state, refusal, incoming, reply, piece, end, message, control,
-    )
-}
-
-// Whether bytes are taken with nothing before it: no reply waits, and the connection is not at its end.
-fn is_calm(settings: Settings, state: u8, waiting: Waiting) -> bool
-    ensures { result ≡ both (not (waits waiting)) (not (both (is_server settings) (is_peer_closed state))) }
-{
-    if session::range::waits(waiting) {
-        return false;
+    if message::pump::take_within(session, header, piece, end, message, control) {
+        return Taken {
+            answer: Answer::More,
+            at: piece.len(),
+        };
     }
-    !is_over(settings, state)
-}
-
-// Whether an answer leaves nothing but what has come.
-fn is_quiet(answer: Answer, end: bool) -> bool
-    ensures { result ≡ is_quiet answer end }
-{
-    match answer {
-        Answer::More => !end,
-        Answer::Text(_) => true,
-        Answer::Binary(_) => true,
-        Answer::Pong(_) => true,
-        Answer::Ping(_) => false,
-        Answer::Close(_) => false,
-        Answer::Closed => false,
-        Answer::Refused(_) => false,
+    let taken = message::pump::take_bytes(session, piece, message, control);
+    let answer = crate::conclude::conclude(session, taken.answer, control);
+    Taken {
+        answer: crate::conclude::flag(session, end, answer),
+        at: taken.at,
     }
 }
 
-// Reads a piece up to one event. Most calls are calm, most pieces of a long message lie inside a frame, and most answers are quiet: these
-// hand the session on with no more of it looked at, or copied, than what has come.
+// Reads a piece up to one event.
+#[tactic(auto, unfolding(session::specs::Calls::read_call))]
 pub fn read(
-    session: Session,
+    mut session: Session,
     piece: &[u8],
     end: bool,
     masks: Masks,
@@ -264,132 +127,19 @@ pub fn read(
 ) -> Turn
     ensures { read result message.new control.new output.new ≡ read_call session piece.now end masks message.old control.old output.old }
 {
-    let settings = session.settings;
-    let incoming = session.incoming;
-    // Most calls want the reply's kind and length alone; its bytes are copied where they are wanted.
-    let reply = session.reply;
-    let waiting = reply.waiting;
-    let header = session::range::kept_header(incoming);
-    let number = read_number(
-        settings,
-        session.state,
-        session.refusal,
-        incoming,
-        header,
-        waiting,
-        reply.length,
-        session.held,
-        message.len(),
-        control.len(),
-        output.len(),
-    );
-    if number != 0 {
+    let header = session::range::kept_header(&session.incoming);
+    if let Err(number) = readable(&session, header, message, control, output) {
         return Turn {
             answer: Answer::Refused(number),
             taken: 0,
             session,
         };
     }
-    if is_stuck(settings, waiting, reply.length, session.held, output.len()) {
-        return Turn {
-            answer: Answer::Refused(19),
-            taken: 0,
-            session,
-        };
-    }
-    if is_calm(settings, session.state, waiting) {
-        let within = message::pump::take_within(
-            settings,
-            session.state,
-            incoming,
-            header,
-            piece,
-            end,
-            message,
-            control,
-        );
-        if within.holds {
-            let mut next = session;
-            next.incoming.counted = within.counted;
-            next.incoming.progress = within.progress;
-            return Turn {
-                answer: Answer::More,
-                taken: piece.len(),
-                session: next,
-            };
-        }
-        let taken = message::pump::take_bytes(
-            settings,
-            session.state,
-            incoming,
-            piece,
-            message,
-            control,
-        );
-        let answer = taken.answer;
-        let come = taken.incoming;
-        if is_quiet(answer, end) {
-            let mut next = session;
-            next.incoming = come;
-            return Turn {
-                answer,
-                taken: taken.at,
-                session: next,
-            };
-        }
-        let stays = session.reply;
-        let gone = left_by(
-            answer,
-            taken.at,
-            come,
-            session.state,
-            session.refusal,
-            stays,
-            end,
-            control,
-        );
-        let told = gone.answer;
-        let reached = gone.incoming;
-        let left = gone.reply;
-        let mut next = session;
-        next.state = gone.state;
-        next.refusal = gone.refusal;
-        next.incoming = reached;
-        next.reply = left;
-        return Turn {
-            answer: told,
-            taken: gone.taken,
-            session: next,
-        };
-    }
-    let due = session.reply;
-    let first = masks.first;
-    let client = settings.role == session::CLIENT;
-    let moved = replies::reply::move_reply(client, due, session.held, first, output);
-    let waits = moved.reply;
-    let gone = read_on(
-        settings,
-        session.state,
-        session.refusal,
-        incoming,
-        waits,
-        piece,
-        end,
-        message,
-        control,
-    );
-    let answer = gone.answer;
-    let come = gone.incoming;
-    let left = gone.reply;
-    let mut next = session;
-    next.state = gone.state;
-    next.refusal = gone.refusal;
-    next.incoming = come;
-    next.reply = left;
-    next.held = moved.held;
+    replies::reply::move_reply(&mut session, masks.first, output);
+    let taken = read_on(&mut session, header, piece, end, message, control);
     Turn {
-        answer,
-        taken: gone.taken,
-        session: next,
+        answer: taken.answer,
+        taken: taken.at,
+        session,
     }
 }
