@@ -1,13 +1,13 @@
 -- Laws of text in a store.
-use mathlib.Core.Path.{◌≡◌, refl, sym, ap, ap₂, subst, ◌∙◌}
+use mathlib.Core.Path.{◌≡◌, refl, sym, ap, subst, ◌∙◌}
 use mathlib.Core.List.{List, [], ◌∷◌, ◌++◌}
 use Prim.Native.Nat.{ℕ, zero, suc, ◌+◌, ◌-◌, ◌≤◌, ◌<◌, ◌/◌, ◌%◌}
 use native.Mathlib.Numerals.{add-one}
 use native.Mathlib.Omega.{arith}
 use borrow.Author.Tests.{lt-ltb, le-ltb, ne_eqb}
 use lib.Dec.{ltb, eqb}
-use lib.ListN.{length, get_or, set, take, length-append}
-use lib.Seq.{take-suc, take_all, length-take-le}
+use lib.ListN.{length, get_or, take, length-append, length-take}
+use lib.Seq.{take-suc}
 use Rattle.base.specs.Stores.{laid}
 use Rattle.base.proofs.Choice.{by_test}
 use Rattle.base.proofs.Stores.{laid-append}
@@ -68,32 +68,24 @@ unfolding hex
 length-hex [] = refl
 length-hex (b ∷ s) = omega (arith, length-hex s)
 
-pub hex-none : (d : List ℕ) (at : ℕ) → d ≡ laid d at (hex [])
-unfolding hex laid
-hex-none d at = refl
+pub hex-none : (d : List ℕ) (at : ℕ) → Wrote d at (hex []) d at
+unfolding hex
+hex-none d at = wrote_none d at
 
-pub hex-more : (d : List ℕ) (at : ℕ) (s : List ℕ) (j : ℕ) {e : List ℕ} {high low : ℕ} → j < length s → e ≡ laid d at (hex (take j s))
-    → high ≡ digit_of (get_or s j 0 / 16) → low ≡ digit_of (get_or s j 0)
-    → set (set e (at + j + j) high) (at + j + j + 1) low ≡ laid d at (hex (take (j + 1) s))
-unfolding laid
-hex-more d at s j {e} {high} {low} h q p r =
-    let b : ℕ = get_or s j 0 in
-    let two : List ℕ = digit_of (b / 16) ∷ (digit_of b ∷ []) in
-    let n : length (take j s) ≡ j = length-take-le j s (omega arith) in
-    let place : at + length (hex (take j s)) ≡ at + j + j = omega (arith, length-hex (take j s)) in
-    sym
-    (ap (λ (l : List ℕ). laid d at (hex l)) (ap (λ (k : ℕ). take k s) (add-one j) ∙ take-suc s j 0 h)
-    ∙ ap (λ (l : List ℕ). laid d at l) (hex-snoc (take j s) b)
-    ∙ laid-append d at (hex (take j s)) two
-    ∙ ap₂ (λ (l : List ℕ) (k : ℕ). laid l k two) (sym q) place
-    ∙ ap₂ (λ (x y : ℕ). laid e (at + j + j) (x ∷ (y ∷ []))) (sym p) (sym r)
-    ∙ ap (λ (k : ℕ). set (set e (at + j + j) high) k low) (sym (add-one (at + j + j))))
-
-pub hex-all : (d : List ℕ) (at : ℕ) (s : List ℕ) (j : ℕ) {e : List ℕ} → length s ≤ j → j ≤ length s → e ≡ laid d at (hex (take j s))
-    → Wrote d at (hex s) e (at + j + j)
-hex-all d at s j h k q = (omega (arith, length-hex s), q ∙ ap (λ (l : List ℕ). laid d at (hex l)) (take_all j s h))
+pub hex-more : (d : List ℕ) (at : ℕ) (s : List ℕ) (j : ℕ) {high low : ℕ} {e f g : List ℕ} {k m n : ℕ} → j < length s
+    → high ≡ digit_of (get_or s j 0 / 16) → low ≡ digit_of (get_or s j 0) → Wrote d at (hex (take j s)) e k
+    → Wrote e k (high ∷ []) f m → Wrote f m (low ∷ []) g n → Wrote d at (hex (take (j + 1) s)) g n
+hex-more d at s j {high} {low} {e} {f} {g} {k} {m} {n} h p r q u v =
+    let two : List ℕ = digit_of (get_or s j 0 / 16) ∷ (digit_of (get_or s j 0) ∷ []) in
+    let both : Wrote e k two g n = rw (p, r) at (wrote_on e k (high ∷ []) (low ∷ []) u v) in
+    let all : hex (take j s) ++ two ≡ hex (take (j + 1) s) =
+    sym (ap hex (ap (λ (i : ℕ). take i s) (add-one j) ∙ take-suc s j 0 h) ∙ hex-snoc (take j s) (get_or s j 0)) in
+    subst (λ (t : List ℕ). Wrote d at t g n) all (wrote_on d at (hex (take j s)) two q both)
 
 -- ---- how long a text is
+pub length-hex_take : (s : List ℕ) (j : ℕ) → length (hex (take j s)) ≤ j + j
+length-hex_take s j = omega (arith, length-hex (take j s), length-take j s)
+
 pub length-decimal_in : (k n : ℕ) → length (decimal_in k n) ≤ k
 unfolding decimal_in
 length-decimal_in zero n = omega arith

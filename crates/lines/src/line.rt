@@ -2,6 +2,8 @@
 ghost use Rattle.std.specs.Prelude.{◌+◌, ◌≤◌, length};
 ghost use Rattle.lines.specs.Text.{Wrote, shown_hex, counted, at_place};
 
+use crate::number::{put_byte, put_decimal, put_hex};
+
 // The bytes of a word.
 pub fn put_word(word: &[u8], out: &mut [u8], at: usize) -> usize
     requires { at + length word.now ≤ length out.old }
@@ -16,11 +18,11 @@ fn put_shown(bytes: &[u8], out: &mut [u8], at: usize) -> usize
     requires { at + (1 + (length bytes.now + length bytes.now)) ≤ length out.old }
     ensures { Wrote out.old at (shown_hex bytes.now) out.new result }
 {
-    if bytes.len() == 0 {
+    if bytes.is_empty() {
         return at;
     }
-    let spaced = crate::number::put_byte(b' ', out, at);
-    crate::number::put_hex(bytes, out, spaced)
+    let spaced = put_byte(b' ', out, at);
+    put_hex(bytes, out, spaced)
 }
 
 // A line of a word, the number of some bytes, and their digits.
@@ -29,10 +31,10 @@ pub fn put_counted(word: &[u8], bytes: &[u8], out: &mut [u8], at: usize) -> usiz
     ensures { Wrote out.old at (counted word.now bytes.now) out.new result }
 {
     let named = put_word(word, out, at);
-    let spaced = crate::number::put_byte(b' ', out, named);
-    let numbered = crate::number::put_decimal(bytes.len() as u64, out, spaced);
+    let spaced = put_byte(b' ', out, named);
+    let numbered = put_decimal(bytes.len() as u64, out, spaced);
     let shown = put_shown(bytes, out, numbered);
-    crate::number::put_byte(b'\n', out, shown)
+    put_byte(b'\n', out, shown)
 }
 
 // A line of words, `at` and a place.
@@ -42,6 +44,6 @@ pub fn put_at_place(words: &[u8], place: u64, out: &mut [u8], at: usize) -> usiz
 {
     let named = put_word(words, out, at);
     let joined = put_word(b" at ", out, named);
-    let placed = crate::number::put_decimal(place, out, joined);
-    crate::number::put_byte(b'\n', out, placed)
+    let placed = put_decimal(place, out, joined);
+    put_byte(b'\n', out, placed)
 }

@@ -8,9 +8,10 @@ fn digit(n: u8) -> u8
 {
     let low = n % 16;
     if low < 10 {
-        return low + 48;
+        b'0' + low
+    } else {
+        b'a' + (low - 10)
     }
-    low + 87
 }
 
 pub(crate) fn put_byte(byte: u8, out: &mut [u8], at: usize) -> usize
@@ -29,12 +30,12 @@ fn put_digits(k: usize, n: u64, out: &mut [u8], at: usize) -> usize
     if k == 0 {
         return at;
     }
-    let last = digit((n % 10) as u8);
-    if n < 10 {
-        return put_byte(last, out, at);
-    }
-    let behind = put_digits(k - 1, n / 10, out, at);
-    put_byte(last, out, behind)
+    let front = if n < 10 {
+        at
+    } else {
+        put_digits(k - 1, n / 10, out, at)
+    };
+    put_byte(digit((n % 10) as u8), out, front)
 }
 
 // A number in decimal.
@@ -50,14 +51,10 @@ pub fn put_hex(bytes: &[u8], out: &mut [u8], at: usize) -> usize
     requires { at + (length bytes.now + length bytes.now) ≤ length out.old }
     ensures { Wrote out.old at (hex bytes.now) out.new result }
 {
-    let mut i = 0;
-    while i < bytes.len() {
-        let byte = bytes[i];
-        let high = digit(byte / 16);
-        let low = digit(byte);
-        out[at + i + i] = high;
-        out[at + i + i + 1] = low;
-        i += 1;
+    let mut behind = at;
+    for byte in bytes {
+        behind = put_byte(digit(*byte / 16), out, behind);
+        behind = put_byte(digit(*byte), out, behind);
     }
-    at + i + i
+    behind
 }

@@ -1,13 +1,13 @@
 -- `lines::number::digit` meets its contract.
-use mathlib.Core.Path.{refl}
 use borrow.Author.Tests.{lt-ltb, le-ltb}
+use native.Mathlib.Omega.{arith}
 use Rattle.lines.specs.Text.{digit_of}
 use Rattle.lines.proofs.number.digit.Goals as goal
 
 pub returns-then-low-lt10 : goal.returns-then-low-lt10
 unfolding digit_of
-returns-then-low-lt10 c = rw (lt-ltb _ 10 c.if-low-lt10.true) refl
+returns-then-low-lt10 c = rw (lt-ltb _ 10 c.if-low-lt10.true) (omega arith)
 
-pub returns : goal.returns
+pub returns-else-low-lt10 : goal.returns-else-low-lt10
 unfolding digit_of
-returns c = rw (le-ltb _ 10 c.if-low-lt10.false) refl
+returns-else-low-lt10 c = rw (le-ltb _ 10 c.if-low-lt10.false) (omega arith)
