@@ -5,12 +5,12 @@ use Rattle.input.proofs.front.Kinds as front
 use Rattle.input.proofs.front.Reads as front_reads
 use Rattle.input.proofs.none.Kinds as none
 use Rattle.input.proofs.none.Reads as none_reads
-use Rattle.input.proofs.shown.Kinds as shown
-use Rattle.input.proofs.shown.Reads as shown-reads
+use Rattle.input.proofs.Window.shown.Kinds as shown
+use Rattle.input.proofs.Window.shown.Reads as shown-reads
 use Rattle.input.proofs.sum.Kinds as sum
 use Rattle.input.proofs.sum.Reads as sum-reads
-use Rattle.input.proofs.used.Kinds as used
-use Rattle.input.proofs.used.Reads as used-reads
+use Rattle.input.proofs.Window.used.Kinds as used
+use Rattle.input.proofs.Window.used.Reads as used-reads
 
 pub none_one : OneAnswer 0 none.ps none.r none_reads.Post
 none_one κs a z z' e e' p q = p ∙ sym q

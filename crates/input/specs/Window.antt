@@ -7,7 +7,7 @@ use Rattle.input.specs.declared.Window.{Window}
 
 -- nothing is read yet
 abbrev pub no_window : Window
-no_window = record { from = 0; to = 0; ended = false; failed = false }
+no_window = record { from = 0; to = 0; ended = false }
 
 -- the sum of two places in an array, which is never longer than 4,294,967,296 bytes; of any other numbers the first
 abbrev pub sum_of : ℕ → ℕ → ℕ
@@ -19,4 +19,4 @@ shown_of bytes w = pick (both (leb w.from w.to) (leb w.to (length bytes))) (part
 
 -- the first n are used
 abbrev pub used_of : Window → ℕ → Window
-used_of w n = record { from = sum_of w.from n; to = w.to; ended = w.ended; failed = w.failed }
+used_of w n = record { from = sum_of w.from n; to = w.to; ended = w.ended }

@@ -1,5 +1,5 @@
-pub mod Splitting
-pub mod Reading
-pub mod Putting
+pub mod Lent
 pub mod OneAnswer
+pub mod Putting
+pub mod Reading
 pub mod Worked

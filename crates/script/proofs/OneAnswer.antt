@@ -1,12 +1,14 @@
 -- Any two results that meet a promise are equal, for each public function.
-use mathlib.Core.Path.{sym, ◌∙◌}
+use mathlib.Core.List.{[], ◌∷◌}
+use Prim.Native.Nat.{ℕ}
+use mathlib.Core.Path.{sym, ap, ◌∙◌}
 use Rattle.base.proofs.Promise.{OneAnswer, OneStore, OnePart}
-use Rattle.script.proofs.answers.hex.Kinds as answers-hex
-use Rattle.script.proofs.answers.hex.Reads as answers-hex-reads
-use Rattle.script.proofs.answers.number.Kinds as number
-use Rattle.script.proofs.answers.number.Reads as number-reads
-use Rattle.script.proofs.answers.put.Kinds as put
-use Rattle.script.proofs.answers.put.Reads as put_reads
+use Rattle.script.proofs.answers.Text.hex.Kinds as answers-hex
+use Rattle.script.proofs.answers.Text.hex.Reads as answers-hex-reads
+use Rattle.script.proofs.answers.Text.number.Kinds as number
+use Rattle.script.proofs.answers.Text.number.Reads as number-reads
+use Rattle.script.proofs.answers.Text.put.Kinds as put
+use Rattle.script.proofs.answers.Text.put.Reads as put_reads
 use Rattle.script.proofs.values.decimal.Kinds as decimal
 use Rattle.script.proofs.values.decimal.Reads as decimal-reads
 use Rattle.script.proofs.values.hex.Kinds as values-hex
@@ -53,23 +55,23 @@ values_hex_one κs a z z' e e' p q = p.0 ∙ sym q.0
 pub values_hex_one_store : OneStore 2 values-hex.ps values-hex.r (λ κs e. e.1.0.now) values-hex-reads.Post
 values_hex_one_store κs a z z' e e' p q = p.1 ∙ sym q.1
 
-pub answers_put_one : OneAnswer 2 put.ps put.r put_reads.Post
-answers_put_one κs a z z' e e' p q = p.0 ∙ sym q.0
+-- the place behind the text
+pub answers_put_one : OneStore 3 put.ps put.r (λ κs e. e.0.now.at ∷ []) put_reads.Post
+answers_put_one κs a z z' e e' p q = ap (λ (n : ℕ). n ∷ []) (p.1.0 ∙ sym q.1.0)
 
--- the store, its first argument
-pub answers_put_one_store : OneStore 2 put.ps put.r (λ κs e. e.0.now) put_reads.Post
-answers_put_one_store κs a z z' e e' p q = p.1 ∙ sym q.1
+pub answers_put_one_store : OneStore 3 put.ps put.r (λ κs e. e.0.now.store.now) put_reads.Post
+answers_put_one_store κs a z z' e e' p q = p.1.1 ∙ sym q.1.1
 
-pub answers_number_one : OneAnswer 1 number.ps number.r number-reads.Post
-answers_number_one κs a z z' e e' p q = p.0 ∙ sym q.0
+-- the place behind the text
+pub answers_number_one : OneStore 2 number.ps number.r (λ κs e. e.0.now.at ∷ []) number-reads.Post
+answers_number_one κs a z z' e e' p q = ap (λ (n : ℕ). n ∷ []) (p.1.0 ∙ sym q.1.0)
 
--- the store, its first argument
-pub answers_number_one_store : OneStore 1 number.ps number.r (λ κs e. e.0.now) number-reads.Post
-answers_number_one_store κs a z z' e e' p q = p.1 ∙ sym q.1
+pub answers_number_one_store : OneStore 2 number.ps number.r (λ κs e. e.0.now.store.now) number-reads.Post
+answers_number_one_store κs a z z' e e' p q = p.1.1 ∙ sym q.1.1
 
-pub answers_hex_one : OneAnswer 2 answers-hex.ps answers-hex.r answers-hex-reads.Post
-answers_hex_one κs a z z' e e' p q = p.0 ∙ sym q.0
+-- the place behind the text
+pub answers_hex_one : OneStore 3 answers-hex.ps answers-hex.r (λ κs e. e.0.now.at ∷ []) answers-hex-reads.Post
+answers_hex_one κs a z z' e e' p q = ap (λ (n : ℕ). n ∷ []) (p.1.0 ∙ sym q.1.0)
 
--- the store, its first argument
-pub answers_hex_one_store : OneStore 2 answers-hex.ps answers-hex.r (λ κs e. e.0.now) answers-hex-reads.Post
-answers_hex_one_store κs a z z' e e' p q = p.1 ∙ sym q.1
+pub answers_hex_one_store : OneStore 3 answers-hex.ps answers-hex.r (λ κs e. e.0.now.store.now) answers-hex-reads.Post
+answers_hex_one_store κs a z z' e e' p q = p.1.1 ∙ sym q.1.1

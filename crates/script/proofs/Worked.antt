@@ -1,15 +1,14 @@
 -- Some words and values computed from the definitions, beside their ASCII numbers.
 use mathlib.Core.Path.{◌≡◌, refl}
 use mathlib.Core.List.{[], ◌∷◌}
-use Rattle.script.specs.declared.values.Value.TheVariants.{Is, Bad}
-use Rattle.script.specs.Words.{onto, words_of, same_bytes, place_in}
-use Rattle.script.specs.Values.{more_of, read_on, decimal_of, bits_of, all_digits, byte_of, bytes_of, is_hex, hex_of}
+use Rattle.std.specs.Prelude.{Some, None}
+use Rattle.script.specs.Words.{words_of, place_in}
+use Rattle.script.specs.Values.{read_on, decimal_of, bytes_of, hex_of}
 
 -- `a bc`; no byte; a space before and behind
 pub words_parted :
     words_of (97 ∷ 32 ∷ 98 ∷ 99 ∷ []) ∷ words_of [] ∷ words_of (32 ∷ 97 ∷ 32 ∷ []) ∷ []
     ≡ ((97 ∷ []) ∷ (98 ∷ 99 ∷ []) ∷ []) ∷ ([] ∷ []) ∷ ([] ∷ (97 ∷ []) ∷ [] ∷ []) ∷ []
-unfolding words_of onto
 words_parted = refl
 
 -- among the names `a bc`: `a`, `bc`, the beginning `b` of a name, and both with their space
@@ -19,8 +18,7 @@ pub words_placed :
     ∷ place_in (words_of (97 ∷ 32 ∷ 98 ∷ 99 ∷ [])) (98 ∷ [])
     ∷ place_in (words_of (97 ∷ 32 ∷ 98 ∷ 99 ∷ [])) (97 ∷ 32 ∷ 98 ∷ 99 ∷ [])
     ∷ []
-    ≡ 0 ∷ 1 ∷ 2 ∷ 2 ∷ []
-unfolding words_of onto same_bytes place_in
+    ≡ Some 0 ∷ Some 1 ∷ None ∷ None ∷ []
 words_placed = refl
 
 -- `007`, `18446744073709551615`, one more, no digit, `1a`, twenty-one zeros
@@ -32,8 +30,8 @@ pub decimals_read :
     ∷ decimal_of (49 ∷ 97 ∷ [])
     ∷ decimal_of (48 ∷ 48 ∷ 48 ∷ 48 ∷ 48 ∷ 48 ∷ 48 ∷ 48 ∷ 48 ∷ 48 ∷ 48 ∷ 48 ∷ 48 ∷ 48 ∷ 48 ∷ 48 ∷ 48 ∷ 48 ∷ 48 ∷ 48 ∷ 48 ∷ [])
     ∷ []
-    ≡ Is 7 ∷ Is 18446744073709551615 ∷ Bad ∷ Bad ∷ Bad ∷ Bad ∷ []
-unfolding more_of read_on decimal_of
+    ≡ Some 7 ∷ Some 18446744073709551615 ∷ None ∷ None ∷ None ∷ None ∷ []
+unfolding read_on
 decimals_read = refl
 
 -- `-`, `0aff` in room for two bytes and for one, no digit, `0`, `0A`
@@ -45,10 +43,9 @@ pub hex-read :
     ∷ hex_of (48 ∷ []) 2
     ∷ hex_of (48 ∷ 65 ∷ []) 2
     ∷ []
-    ≡ Is 0 ∷ Is 2 ∷ Bad ∷ Bad ∷ Bad ∷ Bad ∷ []
-unfolding same_bytes bits_of all_digits is_hex hex_of
+    ≡ Some 0 ∷ Some 2 ∷ None ∷ None ∷ None ∷ None ∷ []
 hex-read = refl
 
 pub hex-bytes : bytes_of (48 ∷ 97 ∷ 102 ∷ 102 ∷ []) ≡ 0x0a ∷ 0xff ∷ []
-unfolding bits_of byte_of bytes_of
+unfolding bytes_of
 hex-bytes = refl

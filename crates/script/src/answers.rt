@@ -1,50 +1,52 @@
-// Answers as text, gathered in a lent store: each function lays its text from place `at` on and gives the place behind it. What does not
-// fit is left out: the place is then given back as it was, and the store is as it was.
+// Answers as text, gathered in a lent store. What does not fit is left out: the place and the store are then as they were.
 ghost use Rattle.std.specs.Prelude.{◌≡◌, ◌∷◌, ◌+◌, leb, length};
 ghost use Rattle.lines.specs.Text.{decimal, shown_hex};
 ghost use Rattle.script.specs.Answers.{Put};
 
-// Whether a store of so many bytes has room for n from place `at` on.
-fn has_room(size: usize, at: usize, n: usize) -> bool
-    ensures { result ≡ leb (at + n) size }
-{
-    if size < at {
-        return false;
-    }
-    n <= size - at
+// A store and the place behind the text that it has so far.
+#[derive(Drop)]
+pub struct Text<'a> {
+    pub store: &'a mut [u8],
+    pub at: usize,
 }
 
-// A word.
-pub fn put(out: &mut [u8], at: usize, word: &[u8]) -> usize
-    ensures { Put (length word.now) out.old at word.now out.new result }
-{
-    if has_room(out.len(), at, word.len()) {
-        return lines::line::put_word(word, out, at);
+impl Text<'_> {
+    // Whether there is room for n bytes more.
+    fn has_room(&self, n: usize) -> bool
+        ensures { result ≡ leb (self.now.at + n) (length self.now.store.now) }
+    {
+        self.at <= self.store.len() && n <= self.store.len() - self.at
     }
-    at
-}
 
-// A space and a number in decimal. Room for twenty digits is asked for, however many it has.
-pub fn number(out: &mut [u8], at: usize, n: u64) -> usize
-    ensures { Put 21 out.old at (32 ∷ decimal n) out.new result }
-{
-    if has_room(out.len(), at, 21) {
-        let spaced = lines::line::put_word(b" ", out, at);
-        return lines::number::put_decimal(n, out, spaced);
+    // A word.
+    pub fn put(&mut self, word: &[u8])
+        ensures same_store { self.new.store.ghost_name ≡ self.old.store.ghost_name }
+        ensures laid { Put (length word.now) self.old.store.now self.old.at word.now self.new.store.now self.new.at }
+    {
+        if self.has_room(word.len()) {
+            self.at = lines::line::put_word(word, self.store, self.at);
+        }
     }
-    at
-}
 
-// A space and two digits for each byte, and nothing where there is none.
-pub fn hex(out: &mut [u8], at: usize, bytes: &[u8]) -> usize
-    ensures { Put (length (shown_hex bytes.now)) out.old at (shown_hex bytes.now) out.new result }
-{
-    if bytes.len() == 0 {
-        return at;
+    // A space and a number in decimal. Room for twenty digits is asked for, however many it has.
+    pub fn number(&mut self, n: u64)
+        ensures same_store { self.new.store.ghost_name ≡ self.old.store.ghost_name }
+        ensures laid { Put 21 self.old.store.now self.old.at (32 ∷ decimal n) self.new.store.now self.new.at }
+    {
+        if self.has_room(21) {
+            let spaced = lines::line::put_word(b" ", self.store, self.at);
+            self.at = lines::number::put_decimal(n, self.store, spaced);
+        }
     }
-    if has_room(out.len(), at, bytes.len() + bytes.len() + 1) {
-        let begun = lines::line::put_word(b" ", out, at);
-        return lines::number::put_hex(bytes, out, begun);
+
+    // A space and two digits for each byte, and nothing where there is none.
+    pub fn hex(&mut self, bytes: &[u8])
+        ensures same_store { self.new.store.ghost_name ≡ self.old.store.ghost_name }
+        ensures laid { Put (length (shown_hex bytes.now)) self.old.store.now self.old.at (shown_hex bytes.now) self.new.store.now self.new.at }
+    {
+        if !bytes.is_empty() && self.has_room(bytes.len() + bytes.len() + 1) {
+            let begun = lines::line::put_word(b" ", self.store, self.at);
+            self.at = lines::number::put_hex(bytes, self.store, begun);
+        }
     }
-    at
 }

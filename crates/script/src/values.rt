@@ -3,68 +3,38 @@ ghost use Rattle.std.specs.Prelude.{◌≡◌, ◌≤◌, ◌/◌, length};
 ghost use Rattle.base.specs.Stores.{laid};
 ghost use Rattle.script.specs.Values.{more_of, decimal_of, bits_of, byte_of, all_digits, bytes_of, hex_of, hex_laid};
 
-// A value, or that it can't be understood.
-#[derive(Clone, Copy)]
-pub enum Value {
-    Is(u64),
-    Bad,
-}
-
 // A number with another digit behind it.
-fn more(n: u64, digit: u8) -> Value
-    ensures { result ≡ more_of (Value.Is n) digit }
+fn more(n: u64, digit: u8) -> Option<u64>
+    ensures { result ≡ more_of (Some n) digit }
 {
-    if digit < b'0' {
-        return Value::Bad;
+    match digit {
+        b'0'..=b'9' => n.checked_mul(10)?.checked_add(u64::from(digit - b'0')),
+        _ => None,
     }
-    if b'9' < digit {
-        return Value::Bad;
-    }
-    let d = (digit - b'0') as u64;
-    if 1844674407370955161 < n {
-        return Value::Bad;
-    }
-    let tens = n * 10;
-    if u64::MAX - tens < d {
-        return Value::Bad;
-    }
-    Value::Is(tens + d)
 }
 
 // A number in decimal: one to twenty digits, and below 2^64. Zeros may stand before it.
-pub fn decimal(word: &[u8]) -> Value
+pub fn decimal(word: &[u8]) -> Option<u64>
     ensures { result ≡ decimal_of word.now }
 {
-    if word.len() < 1 {
-        return Value::Bad;
-    }
-    if 20 < word.len() {
-        return Value::Bad;
+    if word.is_empty() || 20 < word.len() {
+        return None;
     }
     let mut n = 0;
-    let mut i = 0;
-    while i < word.len() {
-        match more(n, word[i]) {
-            Value::Is(m) => {
-                n = m;
-            }
-            Value::Bad => {
-                return Value::Bad;
-            }
-        }
-        i += 1;
+    for digit in word {
+        n = more(n, *digit)?;
     }
-    Value::Is(n)
+    Some(n)
 }
 
-// The four bits of a hexadecimal digit, in lower case; 16 where it is none.
-fn bits(digit: u8) -> u8
+// The four bits of a hexadecimal digit, in lower case.
+fn bits(digit: u8) -> Option<u8>
     ensures { result ≡ bits_of digit }
 {
     match digit {
-        b'0'..=b'9' => digit - 48,
-        b'a'..=b'f' => digit - 87,
-        _ => 16,
+        b'0'..=b'9' => Some(digit - b'0'),
+        b'a'..=b'f' => Some(digit - b'a' + 10),
+        _ => None,
     }
 }
 
@@ -72,43 +42,28 @@ fn bits(digit: u8) -> u8
 fn joined(high: u8, low: u8) -> u8
     ensures { result ≡ byte_of high low }
 {
-    (bits(high) % 16) * 16 + bits(low) % 16
+    bits(high).unwrap_or(0) * 16 + bits(low).unwrap_or(0)
 }
 
 // Whether all bytes are digits.
 fn digits(word: &[u8]) -> bool
     ensures { result ≡ all_digits word.now }
 {
-    let mut i = 0;
-    while i < word.len() {
-        if 15 < bits(word[i]) {
-            return false;
-        }
-        i += 1;
-    }
-    true
+    word.iter().all(|digit| bits(*digit).is_some())
 }
 
 // How many bytes a word stands for, where there is room for so many.
-fn told(word: &[u8], room: usize) -> Value
+fn told(word: &[u8], room: usize) -> Option<u64>
     ensures { result ≡ hex_of word.now room }
 {
-    if crate::words::same(word, b"-") {
-        return Value::Is(0);
+    let n = word.len() / 2;
+    if word == b"-".as_slice() {
+        Some(0)
+    } else if n <= room && !word.is_empty() && word.len() % 2 == 0 && digits(word) {
+        Some(n as u64)
+    } else {
+        None
     }
-    if room < word.len() / 2 {
-        return Value::Bad;
-    }
-    if word.len() < 1 {
-        return Value::Bad;
-    }
-    if word.len() % 2 != 0 {
-        return Value::Bad;
-    }
-    if digits(word) {
-        return Value::Is((word.len() / 2) as u64);
-    }
-    Value::Bad
 }
 
 // Lays a byte for each two digits over the store's front.
@@ -116,23 +71,19 @@ fn lay(word: &[u8], given: &mut [u8])
     requires { length word.now / 2 ≤ length given.old }
     ensures { given.new ≡ laid given.old 0 (bytes_of word.now) }
 {
-    let mut i = 0;
-    while i < word.len() / 2 {
-        given[i] = joined(word[i + i], word[i + i + 1]);
-        i += 1;
+    let (pairs, _) = word.as_chunks::<2>();
+    // Kept: no `given.iter_mut().zip(pairs)`: what such a loop leaves in the store is not known to a proof.
+    for (i, [high, low]) in pairs.iter().enumerate() {
+        given[i] = joined(*high, *low);
     }
 }
 
 // The bytes of a word: two digits for each, or `-` for none. They are laid over the store's front, and their number is told. The digits are
 // looked at first, so that a word that can't be understood changes no byte.
-pub fn hex(word: &[u8], given: &mut [u8]) -> Value
+pub fn hex(word: &[u8], given: &mut [u8]) -> Option<u64>
     ensures { (result ≡ hex_of word.now (length given.old)) × (given.new ≡ hex_laid word.now given.old) }
 {
-    match told(word, given.len()) {
-        Value::Is(n) => {
-            lay(word, given);
-            Value::Is(n)
-        }
-        Value::Bad => Value::Bad,
-    }
+    let n = told(word, given.len())?;
+    lay(word, given);
+    Some(n)
 }

@@ -1,27 +1,21 @@
 // Close payloads.
-ghost use Rattle.std.specs.Prelude.{◌≤◌};
-
 use crate::told;
-use crate::told::{Answer, Store};
 use frame::close::ClosePayload;
+use script::answers::Text;
 
-pub(crate) fn payload(args: &[u8]) -> Answer {
+pub(crate) fn payload(args: &[u8], text: &mut Text<'_>) {
     match frame::close::into_close(args) {
-        ClosePayload::Empty => told::of(told::W, told::EMPTY, 0, 0, 0),
-        ClosePayload::OneByte => told::of(told::W, told::ONE, 0, 0, 0),
-        ClosePayload::CodeAndReason(code) => told::of(told::WN, told::CODE, code as u64, 0, 0),
+        ClosePayload::Empty => told::word(b"empty", text),
+        ClosePayload::OneByte => told::word(b"one", text),
+        ClosePayload::CodeAndReason(code) => {
+            told::word(b"code", text);
+            text.number(u64::from(code));
+        }
     }
 }
 
-fn wide(byte: u8) -> u16
-    ensures { result ≤ 255 }
-{
-    byte as u16
-}
-
-pub(crate) fn code(args: &[u8], store: &mut Store) -> Answer {
-    let code = wide(script::words::byte(args, 0)) * 256 + wide(script::words::byte(args, 1));
-    let bytes = frame::close::code_bytes(code);
-    stores::copy(&bytes, store, 0);
-    told::of(told::NX, code as u64, 2, 0, 0)
+pub(crate) fn code(args: &[u8], text: &mut Text<'_>) {
+    let code = crate::args::code(args);
+    text.number(u64::from(code));
+    text.hex(&frame::close::code_bytes(code));
 }

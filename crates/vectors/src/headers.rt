@@ -1,84 +1,73 @@
 // Opcodes and frame headers.
 use crate::told;
-use crate::told::{Answer, Store};
+use crate::told::Store;
 use coding::opcode::{Control, Data, OpCode};
 use frame::header::{FrameHeader, Parsed};
+use script::answers::Text;
 
-// The word of a class, by its place.
-fn class(opcode: OpCode) -> u64 {
+// The word of a class.
+fn class(opcode: OpCode) -> &'static [u8] {
     match opcode {
-        OpCode::Data(data) => match data {
-            Data::Continue => 5,
-            Data::Text => 6,
-            Data::Binary => 7,
-        },
-        OpCode::Control(control) => match control {
-            Control::Close => 8,
-            Control::Ping => 9,
-            Control::Pong => 10,
-        },
-        OpCode::Reserved(_) => 11,
+        OpCode::Data(Data::Continue) => b"continue",
+        OpCode::Data(Data::Text) => b"text",
+        OpCode::Data(Data::Binary) => b"binary",
+        OpCode::Control(Control::Close) => b"close",
+        OpCode::Control(Control::Ping) => b"ping",
+        OpCode::Control(Control::Pong) => b"pong",
+        OpCode::Reserved(_) => b"reserved",
     }
 }
 
-pub(crate) fn opcode(args: &[u8]) -> Answer {
+pub(crate) fn opcode(args: &[u8], text: &mut Text<'_>) {
     let opcode = OpCode::from_u8(script::words::byte(args, 0));
-    told::of(told::WN, class(opcode), opcode.into_u8() as u64, 0, 0)
+    told::word(class(opcode), text);
+    text.number(u64::from(opcode.into_u8()));
 }
 
-// A header that is whole, with its mask in the store.
-fn whole(header: FrameHeader) -> Answer {
-    let opcode = header.opcode;
-    Answer {
-        shape: told::NNNNWNNX,
-        numbers: [
-            told::flag(header.fin),
-            told::flag(header.rsv1),
-            told::flag(header.rsv2),
-            told::flag(header.rsv3),
-            class(opcode),
-            told::flag(header.masked),
-            header.length,
-            4,
-        ],
+// A header that is whole.
+fn whole(header: FrameHeader, mask: [u8; 4], text: &mut Text<'_>) {
+    for flag in [header.fin, header.rsv1, header.rsv2, header.rsv3] {
+        text.number(u64::from(flag));
     }
+    told::word(class(header.opcode), text);
+    text.number(u64::from(header.masked));
+    text.number(header.length);
+    text.hex(&mask);
 }
 
-pub(crate) fn read(args: &[u8], store: &mut Store) -> Answer {
-    let parsed = frame::header::parse(args);
-    let mask = frame::header::mask_of(args);
-    stores::copy(&mask, store, 0);
-    match parsed {
-        Parsed::Lacking => told::of(told::W, told::LACKING, 0, 0, 0),
-        Parsed::Whole(header) => whole(header),
+pub(crate) fn read(args: &[u8], text: &mut Text<'_>) {
+    match frame::header::parse(args) {
+        Parsed::Lacking => told::word(b"lacking", text),
+        Parsed::Whole(header) => whole(header, frame::header::mask_of(args), text),
     }
 }
 
 // A header by its flags byte, its opcode byte and its length.
 fn header_of(flags: u8, opcode: u8, length: u64) -> FrameHeader {
-    let opcode = OpCode::from_u8(opcode);
     FrameHeader {
         fin: flags & 1 != 0,
         rsv1: flags & 2 != 0,
         rsv2: flags & 4 != 0,
         rsv3: flags & 8 != 0,
-        opcode,
+        opcode: OpCode::from_u8(opcode),
         masked: flags & 16 != 0,
         length,
     }
 }
 
 // Lays the header over a store and tells where it ends. The test on its size stands in for a proof that none has more than 27 bytes.
-fn formatted(header: FrameHeader, mask: [u8; 4], store: &mut Store) -> Answer {
+fn formatted(header: FrameHeader, mask: [u8; 4], store: &mut Store, text: &mut Text<'_>) {
     let size = frame::header::header_size(header.masked, header.length);
     if 27 < size {
-        return told::refusal();
+        return told::refused(text);
     }
     let behind = frame::header::format(header, mask, store, 5);
-    told::of(told::NNX, size as u64, behind as u64, 32, 0)
+    text.number(size as u64);
+    text.number(behind as u64);
+    text.hex(&store[..32]);
 }
 
-pub(crate) fn write(args: &[u8], store: &mut Store) -> Answer {
+pub(crate) fn write(args: &[u8], store: &mut Store, text: &mut Text<'_>) {
     let header = header_of(
         script::words::byte(args, 0),
         script::words::byte(args, 1),
@@ -88,5 +77,6 @@ pub(crate) fn write(args: &[u8], store: &mut Store) -> Answer {
         header,
         crate::args::mask(script::words::behind(args, 2)),
         store,
+        text,
     )
 }

@@ -12,9 +12,8 @@ mod stored;
 mod told;
 mod utf;
 
-use crate::told::{Answer, Store, Text};
 use input::Window;
-use script::values::Value;
+use script::answers::Text;
 use std::io;
 
 // The input's bytes that were read and not used yet, and those of a record's argument.
@@ -25,246 +24,209 @@ type Args = [u8; 255];
 // The longest line, without its line feed.
 const LONGEST: usize = 1024;
 
-// The kinds of records, by their places in `record`.
-const OPCODE: usize = 0;
+#[derive(Clone, Copy, PartialEq, Eq)]
+enum Kind {
+    Opcode,
+    Header,
+    Write,
+    Mask,
+    Copy,
+    Utf8,
+    Step,
+    Close,
+    Code,
+    Violation,
+    Codes,
+}
 
-const HEADER: usize = 1;
-
-const WRITE: usize = 2;
-
-const MASK: usize = 3;
-
-const COPY: usize = 4;
-
-const UTF8: usize = 5;
-
-const STEP: usize = 6;
-
-const CLOSE: usize = 7;
-
-const CODE: usize = 8;
-
-const VIOLATION: usize = 9;
-
-const CODES: usize = 10;
+impl Kind {
+    fn of(word: &[u8]) -> Option<Kind> {
+        match word {
+            b"opcode" => Some(Kind::Opcode),
+            b"header" => Some(Kind::Header),
+            b"write" => Some(Kind::Write),
+            b"mask" => Some(Kind::Mask),
+            b"copy" => Some(Kind::Copy),
+            b"utf8" => Some(Kind::Utf8),
+            b"step" => Some(Kind::Step),
+            b"close" => Some(Kind::Close),
+            b"code" => Some(Kind::Code),
+            b"violation" => Some(Kind::Violation),
+            b"codes" => Some(Kind::Codes),
+            _ => None,
+        }
+    }
+}
 
 // The argument of a record: a number, or how many bytes it has.
-fn argument(kind: usize, word: &[u8], args: &mut Args) -> Value {
+fn argument(kind: Kind, word: &[u8], args: &mut Args) -> Option<u64> {
     match kind {
-        VIOLATION => script::values::decimal(word),
-        CODES => Value::Is(0),
+        Kind::Violation => script::values::decimal(word),
+        Kind::Codes => Some(0),
         _ => script::values::hex(word, args),
     }
 }
 
-// Whether there is such a kind of record, with such an argument.
-fn is_record(kind: usize, n: u64) -> bool {
+// Whether there is a record of this kind with such an argument.
+fn may_have(kind: Kind, n: u64) -> bool {
     match kind {
-        OPCODE => n == 1,
-        HEADER | CLOSE => true,
-        WRITE => n == 14,
-        MASK => 13 <= n,
-        COPY | UTF8 => 1 <= n,
-        STEP | CODE => n == 2,
-        VIOLATION => n < 256,
-        CODES => true,
-        _ => false,
+        Kind::Opcode => n == 1,
+        Kind::Header | Kind::Close | Kind::Codes => true,
+        Kind::Write => n == 14,
+        Kind::Mask => 13 <= n,
+        Kind::Copy | Kind::Utf8 => 1 <= n,
+        Kind::Step | Kind::Code => n == 2,
+        Kind::Violation => n < 256,
     }
 }
 
-fn words(kind: usize) -> usize {
+// What a record answers behind itself. Its store is filled with the byte ee.
+fn answer(kind: Kind, n: usize, args: &[u8], text: &mut Text<'_>) {
+    let mut store = [0xee; 64];
     match kind {
-        CODES => 1,
-        _ => 2,
-    }
-}
-
-// What a record answers. Its store is filled with the byte ee.
-fn answer(kind: usize, n: usize, args: &[u8], store: &mut Store) -> Answer {
-    match kind {
-        OPCODE => headers::opcode(args),
-        HEADER => headers::read(args, store),
-        WRITE => headers::write(args, store),
-        MASK => stored::mask(args, store),
-        COPY => stored::copy(args, store),
-        UTF8 => utf::scan(args),
-        STEP => utf::step(args),
-        CLOSE => closes::payload(args),
-        CODE => closes::code(args, store),
-        _ => stored::violation(n, store),
+        Kind::Opcode => headers::opcode(args, text),
+        Kind::Header => headers::read(args, text),
+        Kind::Write => headers::write(args, &mut store, text),
+        Kind::Mask => stored::mask(args, &mut store, text),
+        Kind::Copy => stored::copy(args, &mut store, text),
+        Kind::Utf8 => utf::scan(args, text),
+        Kind::Step => utf::step(args, text),
+        Kind::Close => closes::payload(args, text),
+        Kind::Code => closes::code(args, text),
+        Kind::Violation => stored::violation(n, &mut store, text),
+        Kind::Codes => {}
     }
 }
 
 // The lines of a record, without the end of the last.
-fn lines(kind: usize, n: usize, line: &[u8], args: &[u8], out: &mut Text, at: usize) -> usize {
-    if kind == CODES {
-        return codes::runs(out, at);
+fn lines(kind: Kind, n: usize, line: &[u8], args: &[u8], text: &mut Text<'_>) {
+    if kind == Kind::Codes {
+        codes::runs(text);
+    } else {
+        text.put(line);
+        answer(kind, n, input::front(args, n), text);
     }
-    let mut store = [0xeeu8; 64];
-    let answer = answer(kind, n, input::front(args, n), &mut store);
-    let echoed = script::answers::put(out, at, line);
-    told::tell(answer, &store, out, echoed)
 }
 
-// What a turn is about: a line, more of the input, a line that is no record, or the input's end.
-const A_LINE: usize = 0;
-
-const WANTING: usize = 1;
-
-const NO_RECORD: usize = 2;
-
-const OVER: usize = 3;
-
-#[derive(Clone, Copy)]
-struct State {
-    window: Window,
-    // the bytes of the window that are used at the next turn
-    used: usize,
-    length: usize,
-    // the place behind the answers that are not written yet
-    at: usize,
-    what: usize,
+// Answers a line; None, and nothing is said, where it is no record.
+fn record(line: &[u8], args: &mut Args, text: &mut Text<'_>) -> Option<()> {
+    let kind = Kind::of(script::words::word(line, 0))?;
+    let n = argument(kind, script::words::word(line, 1), args)?;
+    let words = if kind == Kind::Codes { 1 } else { 2 };
+    if !may_have(kind, n) || script::words::count(line) != words {
+        return None;
+    }
+    lines(kind, n as usize, line, args, text);
+    text.put(b"\n");
+    Some(())
 }
 
-// A line's end.
-fn end(state: State, out: &mut Text, at: usize) -> State {
-    let mut next = state;
-    next.at = script::answers::put(out, at, b"\n");
-    next
+// What the bytes that are there begin with.
+enum Next {
+    // a line of so many bytes
+    Line(usize),
+    // one that is not whole yet
+    More,
+    // one that is too long
+    TooLong,
+    // the input's end
+    Over,
 }
 
-fn bad(state: State, out: &mut Text) -> State {
-    let said = script::answers::put(out, state.at, b"bad record");
-    let mut next = end(state, out, said);
-    next.what = OVER;
-    next
+impl Next {
+    fn of(shown: &[u8], ended: bool) -> Next {
+        match script::words::find(shown, b'\n') {
+            Some(n) if n <= LONGEST => Next::Line(n),
+            None if shown.len() <= LONGEST => {
+                if !ended {
+                    Next::More
+                } else if shown.is_empty() {
+                    Next::Over
+                } else {
+                    Next::Line(shown.len())
+                }
+            }
+            _ => Next::TooLong,
+        }
+    }
 }
 
-fn record(state: State, line: &[u8], args: &mut Args, out: &mut Text) -> State {
-    let kind = script::words::place(
-        b"opcode header write mask copy utf8 step close code violation codes",
-        script::words::word(line, 0),
-    );
-    let Value::Is(n) = argument(kind, script::words::word(line, 1), args) else {
-        return bad(state, out);
-    };
-    if !is_record(kind, n) {
-        return bad(state, out);
-    }
-    if script::words::count(line) != words(kind) {
-        return bad(state, out);
-    }
-    let reached = lines(kind, n as usize, line, args, out, state.at);
-    end(state, out, reached)
-}
-
-// What the bytes that are there begin with, where the first line feed is at place n of so many.
-fn what(n: usize, of: usize, ended: bool) -> usize {
-    if LONGEST < n {
-        return NO_RECORD;
-    }
-    if n < of {
-        return A_LINE;
-    }
-    if !ended {
-        return WANTING;
-    }
-    if n == 0 {
-        return OVER;
-    }
-    A_LINE
-}
-
-fn look(state: State, bytes: &[u8]) -> State {
-    let before = state.window;
-    let window = input::used(before, state.used);
-    let shown = input::shown(bytes, window);
-    let n = script::words::find(shown, b'\n');
-    let mut next = state;
-    next.window = window;
-    next.what = what(n, shown.len(), window.ended);
-    next.length = n;
-    next.used = input::sum(n, 1);
-    next
+// Writes what is answered so far.
+fn write_out(rt: &impl Print, text: &mut Text<'_>) -> io::Result<()> {
+    let at = text.at;
+    rt.write_all(input::front(text.store, at))?;
+    text.at = 0;
+    Ok(())
 }
 
 // More bytes are wanted. Where a read fails, what is answered so far is written, and the failure ends the run.
 fn more(
     rt: &(impl Input + Print),
-    state: State,
+    window: Window,
     bytes: &mut Bytes,
-    out: &Text,
-) -> io::Result<State> {
-    let window = state.window;
-    let refilled = input::refill(&mut rt.reader(), bytes, window);
-    if refilled.failed {
-        rt.write_all(input::front(out, state.at))?;
-        return Err(io::Error::other("the records can't be read"));
+    text: &mut Text<'_>,
+) -> io::Result<Window> {
+    match window.refill(&mut rt.reader(), bytes) {
+        Ok(refilled) => Ok(refilled),
+        Err(_) => {
+            write_out(rt, text)?;
+            Err(io::Error::other("the records can't be read"))
+        }
     }
-    let mut next = state;
-    next.window = refilled;
-    next.used = 0;
-    Ok(next)
 }
 
+// One turn; the window behind it, or None where the run is over.
 fn turn(
     rt: &(impl Input + Print),
-    state: State,
+    window: Window,
     bytes: &mut Bytes,
     args: &mut Args,
-    out: &mut Text,
-) -> io::Result<State> {
-    let looked = look(state, bytes);
-    let window = looked.window;
-    let what = looked.what;
-    match what {
-        A_LINE => {
-            let line = input::front(input::shown(bytes, window), looked.length);
-            Ok(record(looked, line, args, out))
+    text: &mut Text<'_>,
+) -> io::Result<Option<Window>> {
+    let shown = window.shown(bytes);
+    let answered = match Next::of(shown, window.ended) {
+        Next::Line(n) => record(input::front(shown, n), args, text).map(|()| n),
+        Next::More => return Ok(Some(more(rt, window, bytes, text)?)),
+        Next::TooLong => None,
+        Next::Over => return Ok(None),
+    };
+    match answered {
+        Some(n) => Ok(Some(window.used(input::sum(n, 1)))),
+        None => {
+            text.put(b"bad record\n");
+            Ok(None)
         }
-        WANTING => more(rt, looked, bytes, out),
-        NO_RECORD => Ok(bad(looked, out)),
-        _ => Ok(looked),
     }
 }
 
-// The answers are written out once they fill half their room, which leaves more than a record's lines take.
-fn written(rt: &impl Print, state: State, out: &Text) -> io::Result<State> {
-    if state.at < 32768 {
-        return Ok(state);
-    }
-    rt.write_all(input::front(out, state.at))?;
-    let mut next = state;
-    next.at = 0;
-    Ok(next)
-}
-
-// A proved loop has to end, and nothing says that the input does. So the loop counts its turns, up to a number that no run uses up.
+// A proved loop has to end, and nothing says that the input does. So the loop counts its turns, up to a number that no run uses up. The
+// answers are written out once they fill half their room, which leaves more than a record's lines take.
 fn run(
     rt: &(impl Input + Print),
     bytes: &mut Bytes,
     args: &mut Args,
-    out: &mut Text,
+    text: &mut Text<'_>,
 ) -> io::Result<()> {
-    let mut state = State {
-        window: input::none(),
-        used: 0,
-        length: 0,
-        at: 0,
-        what: WANTING,
-    };
+    let mut window = input::none();
     for _ in 0..u64::MAX {
-        state = written(rt, turn(rt, state, bytes, args, out)?, out)?;
-        if state.what == OVER {
+        let Some(behind) = turn(rt, window, bytes, args, text)? else {
             break;
+        };
+        window = behind;
+        if 32768 <= text.at {
+            write_out(rt, text)?;
         }
     }
-    rt.write_all(input::front(out, state.at))
+    write_out(rt, text)
 }
 
 fn main(rt: HostRuntime) -> io::Result<()> {
     let mut bytes = [0u8; 65536];
     let mut args = [0u8; 255];
-    let mut out = [0u8; 65536];
-    run(&rt, &mut bytes, &mut args, &mut out)
+    let mut store = [0u8; 65536];
+    let mut text = Text {
+        store: &mut store,
+        at: 0,
+    };
+    run(&rt, &mut bytes, &mut args, &mut text)
 }

@@ -1,51 +1,46 @@
 // What lays bytes over a store: masking, copying, and the close of a violation. What does not fit is refused here, since the functions
 // require that it fits.
-use crate::told;
-use crate::told::{Answer, Store};
+ghost use Rattle.std.specs.Prelude.{◌+◌, ◌≤◌, ◌↔◌, IsTrue, length};
 
-pub(crate) fn mask(args: &[u8], store: &mut Store) -> Answer {
-    let place = script::words::byte(args, 12) as usize;
-    let piece = script::words::behind(args, 13);
-    if 64 < place {
-        return told::refusal();
-    }
-    if 64 - place < piece.len() {
-        return told::refusal();
-    }
-    mask::apply_mask(
-        piece,
-        store,
-        place,
-        crate::args::mask(script::words::behind(args, 8)),
-        crate::args::big(args) as usize,
-    );
-    told::of(told::X, 64, 0, 0, 0)
+use crate::told;
+use crate::told::Store;
+use script::answers::Text;
+
+// Whether a piece fits a store from a place on.
+fn fits(piece: &[u8], place: usize) -> bool
+    ensures { IsTrue result ↔ (place + length piece.now ≤ 64) }
+{
+    place <= 64 && piece.len() <= 64 - place
 }
 
-pub(crate) fn copy(args: &[u8], store: &mut Store) -> Answer {
-    let place = script::words::byte(args, 0) as usize;
-    let piece = script::words::behind(args, 1);
-    if 64 < place {
-        return told::refusal();
+pub(crate) fn mask(args: &[u8], store: &mut Store, text: &mut Text<'_>) {
+    let place = usize::from(script::words::byte(args, 12));
+    let piece = script::words::behind(args, 13);
+    if !fits(piece, place) {
+        return told::refused(text);
     }
-    if 64 - place < piece.len() {
-        return told::refusal();
+    let mask = crate::args::mask(script::words::behind(args, 8));
+    mask::apply_mask(piece, store, place, mask, crate::args::big(args) as usize);
+    text.hex(store);
+}
+
+pub(crate) fn copy(args: &[u8], store: &mut Store, text: &mut Text<'_>) {
+    let place = usize::from(script::words::byte(args, 0));
+    let piece = script::words::behind(args, 1);
+    if !fits(piece, place) {
+        return told::refused(text);
     }
     stores::copy(piece, store, place);
-    told::of(told::X, 64, 0, 0, 0)
+    text.hex(store);
 }
 
 // A store of n bytes.
-pub(crate) fn violation(n: usize, store: &mut [u8]) -> Answer {
-    if n < 20 {
-        return told::refusal();
+pub(crate) fn violation(n: usize, store: &mut Store, text: &mut Text<'_>) {
+    match n {
+        20..=40 => {
+            frame::close::write_violation(&mut store[..n]);
+            text.hex(&store[..n]);
+        }
+        _ => told::refused(text),
     }
-    if 40 < n {
-        return told::refusal();
-    }
-    if store.len() < n {
-        return told::refusal();
-    }
-    frame::close::write_violation(&mut store[0..n]);
-    told::of(told::X, n as u64, 0, 0, 0)
 }

@@ -1,13 +1,8 @@
 -- `script::values::lay` meets its contract. The loop's invariant: the first i bytes are laid over the store.
-use mathlib.Core.Path.{◌≡◌}
-use Prim.Native.Nat.{◌≤◌, ◌-◌, ◌/◌}
-use lib.ListN.{length, take}
+use Rattle.std.proofs.Common.{◌≡◌, take}
 use Rattle.base.specs.Stores.{laid}
 use Rattle.script.specs.Values.{bytes_of}
 use Rattle.script.proofs.values.lay.Given as goal
 
 abbrev pub invariant-loop-i : goal.invariant-loop-i
-invariant-loop-i l = (l.i ≤ length l.word / 2) × (l.given ≡ laid l.initial.given 0 (take l.i (bytes_of l.word))) × (length l.given ≡ length l.initial.given)
-
-abbrev pub decreases-loop-i : goal.decreases-loop-i
-decreases-loop-i l = length l.word / 2 - l.i
+invariant-loop-i l = l.given ≡ laid l.initial.given 0 (take l.i (bytes_of l.word))

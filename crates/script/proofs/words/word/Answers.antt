@@ -1,30 +1,16 @@
--- `script::words::word` meets its contract. The loop's invariant: the word that is looked for is the one at the place `left` in the rest.
-use mathlib.Core.Path.{refl, sym, ◌∙◌}
-use Prim.Native.Nat.{◌≤◌}
-use native.Mathlib.Omega.{arith}
-use lib.ListN.{length}
-use lib.Seq.{length-take-le}
-use Rattle.script.proofs.Splitting.{find_within, word_on, word_lacks, word_here}
+-- `script::words::word` meets its contract.
+use mathlib.Core.Path.{◌∙◌, ap}
+use denote.Ref.{Bor}
+use Rattle.std.proofs.Common.{◌==◌, List, ℕ, rules, tests}
+use Rattle.std.proofs.lemmas.Iterator.Consumers.{nth_from_yields_List}
+use Rattle.std.proofs.lemmas.Iterator.Splits.{YieldsList-from_slice_split}
+use Rattle.script.specs.Words.{words_of}
+use Rattle.script.proofs.Lent.{bytes_of_lent}
 use Rattle.script.proofs.words.word.Goals as goal
-
-pub loop-left-init : goal.loop-left-init
-loop-left-init c = (omega arith, refl)
-
-pub returns-then-rest-at : goal.returns-then-rest-at
-returns-then-rest-at c =
-    sym (c.loop-left.invariant.1 ∙ word_lacks _ _ _ c.find-at.ensures c.if-rest-at.true c.loop-left-test.true)
-
-pub loop-left-preserved : goal.loop-left-preserved
-loop-left-preserved c = (
-  omega arith,
-  c.loop-left.invariant.1 ∙ word_on _ _ _ c.find-at.ensures c.if-rest-at.false c.loop-left-test.true,
-)
-
-pub slice_bounds-result-end-2 : goal.slice_bounds-result-end-2
-slice_bounds-result-end-2 c =
-    let most : c.find-end.result ≤ length c.loop-left.rest.now = omega (arith, find_within 32 c.loop-left.rest.now, c.find-end.ensures) in
-    sym (length-take-le _ _ most)
 
 pub returns : goal.returns
 returns c =
-    sym (c.loop-left.invariant.1 ∙ word_here _ _ _ c.find-end.ensures c.loop-left-test.false)
+    ap (λ (r : Bor (List ℕ)). r.now) c.unwrap_or.ensures ∙ bytes_of_lent _ _ (words_of c.args.line.now) c.args.k
+    (nth_from_yields_List _ _ c.args.k c.nth.ensures.ran
+    (YieldsList-from_slice_split _ (λ b. b == 32) c.args.line.now c.split.ensures.rest c.split.ensures.done c.split.ensures.closure
+    (λ x b q k. search (rules, tests))))
