@@ -3,27 +3,27 @@ use crate::told;
 use coding::close_code::CloseCode;
 use script::answers::Text;
 
-// The word of a class, and the code that the class carries.
-fn class_of(code: u16) -> (&'static [u8], u16) {
-    match CloseCode::from_u16(code) {
-        CloseCode::Normal => (b"normal", 1000),
-        CloseCode::Away => (b"away", 1001),
-        CloseCode::Protocol => (b"protocol", 1002),
-        CloseCode::Unsupported => (b"unsupported", 1003),
-        CloseCode::Status => (b"status", 1005),
-        CloseCode::Abnormal => (b"abnormal", 1006),
-        CloseCode::Invalid => (b"invalid", 1007),
-        CloseCode::Policy => (b"policy", 1008),
-        CloseCode::Size => (b"size", 1009),
-        CloseCode::Extension => (b"extension", 1010),
-        CloseCode::Error => (b"error", 1011),
-        CloseCode::Restart => (b"restart", 1012),
-        CloseCode::Again => (b"again", 1013),
-        CloseCode::Tls => (b"tls", 1015),
-        CloseCode::Reserved(code) => (b"reserved", code),
-        CloseCode::Iana(code) => (b"iana", code),
-        CloseCode::Library(code) => (b"library", code),
-        CloseCode::Bad(code) => (b"bad", code),
+// The word of a class.
+fn word_of(class: CloseCode) -> &'static [u8] {
+    match class {
+        CloseCode::Normal => b"normal",
+        CloseCode::Away => b"away",
+        CloseCode::Protocol => b"protocol",
+        CloseCode::Unsupported => b"unsupported",
+        CloseCode::Status => b"status",
+        CloseCode::Abnormal => b"abnormal",
+        CloseCode::Invalid => b"invalid",
+        CloseCode::Policy => b"policy",
+        CloseCode::Size => b"size",
+        CloseCode::Extension => b"extension",
+        CloseCode::Error => b"error",
+        CloseCode::Restart => b"restart",
+        CloseCode::Again => b"again",
+        CloseCode::Tls => b"tls",
+        CloseCode::Reserved(_) => b"reserved",
+        CloseCode::Iana(_) => b"iana",
+        CloseCode::Library(_) => b"library",
+        CloseCode::Bad(_) => b"bad",
     }
 }
 
@@ -36,11 +36,11 @@ struct Sort {
 }
 
 fn sort_of(code: u16) -> Sort {
-    let (word, carried) = class_of(code);
+    let class = CloseCode::from(code);
     let allowed = coding::close_code::is_allowed(code);
-    let right = carried == code && CloseCode::from_u16(code).is_allowed() == allowed;
+    let right = u16::from(class) == code && class.is_allowed() == allowed;
     Sort {
-        word: if right { word } else { b"wrong" },
+        word: if right { word_of(class) } else { b"wrong" },
         allowed,
     }
 }

@@ -2,7 +2,7 @@
 use crate::told;
 use crate::told::Store;
 use coding::opcode::{Control, Data, OpCode};
-use frame::header::{FrameHeader, Parsed};
+use frame::header::FrameHeader;
 use script::answers::Text;
 
 // The word of a class.
@@ -19,26 +19,26 @@ fn class(opcode: OpCode) -> &'static [u8] {
 }
 
 pub(crate) fn opcode(args: &[u8], text: &mut Text<'_>) {
-    let opcode = OpCode::from_u8(script::words::byte(args, 0));
+    let opcode = OpCode::from(script::words::byte(args, 0));
     told::word(class(opcode), text);
-    text.number(u64::from(opcode.into_u8()));
+    text.number(u64::from(u8::from(opcode)));
 }
 
-// A header that is whole.
-fn whole(header: FrameHeader, mask: [u8; 4], text: &mut Text<'_>) {
+// A header that is whole; zeros stand for the mask that it may lack.
+fn whole(header: FrameHeader, mask: Option<[u8; 4]>, text: &mut Text<'_>) {
     for flag in [header.fin, header.rsv1, header.rsv2, header.rsv3] {
         text.number(u64::from(flag));
     }
     told::word(class(header.opcode), text);
     text.number(u64::from(header.masked));
     text.number(header.length);
-    text.hex(&mask);
+    text.hex(&mask.unwrap_or([0; 4]));
 }
 
 pub(crate) fn read(args: &[u8], text: &mut Text<'_>) {
     match frame::header::parse(args) {
-        Parsed::Lacking => told::word(b"lacking", text),
-        Parsed::Whole(header) => whole(header, frame::header::mask_of(args), text),
+        None => told::word(b"lacking", text),
+        Some(header) => whole(header, frame::header::mask_of(args), text),
     }
 }
 
@@ -49,7 +49,7 @@ fn header_of(flags: u8, opcode: u8, length: u64) -> FrameHeader {
         rsv1: flags & 2 != 0,
         rsv2: flags & 4 != 0,
         rsv3: flags & 8 != 0,
-        opcode: OpCode::from_u8(opcode),
+        opcode: OpCode::from(opcode),
         masked: flags & 16 != 0,
         length,
     }
