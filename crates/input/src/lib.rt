@@ -8,6 +8,9 @@ ghost use Rattle.input.specs.Window.{no_window, sum_of, shown_of, used_of};
 use std::io;
 use std::io::Read;
 
+// No array is longer.
+const LONGEST: usize = 4294967296;
+
 #[derive(Clone, Copy)]
 pub struct Window {
     pub from: usize,
@@ -38,7 +41,7 @@ pub fn front(all: &[u8], n: usize) -> &[u8]
 pub fn sum(a: usize, b: usize) -> usize
     ensures { result ≡ sum_of a b }
 {
-    if a <= 4294967296 && b <= 4294967296 {
+    if a <= LONGEST && b <= LONGEST {
         a + b
     } else {
         a

@@ -58,13 +58,14 @@ fn header_of(flags: u8, opcode: u8, length: u64) -> FrameHeader {
 // Lays the header over a store and tells where it ends. The test on its size stands in for a proof that none has more than 27 bytes.
 fn formatted(header: FrameHeader, mask: [u8; 4], store: &mut Store, text: &mut Text<'_>) {
     let size = frame::header::header_size(header.masked, header.length);
-    if 27 < size {
-        return told::refused(text);
+    if size <= 27 {
+        let behind = frame::header::format(header, mask, store, 5);
+        text.number(size as u64);
+        text.number(behind as u64);
+        text.hex(&store[..32]);
+    } else {
+        told::refused(text);
     }
-    let behind = frame::header::format(header, mask, store, 5);
-    text.number(size as u64);
-    text.number(behind as u64);
-    text.hex(&store[..32]);
 }
 
 pub(crate) fn write(args: &[u8], store: &mut Store, text: &mut Text<'_>) {

@@ -16,22 +16,24 @@ fn fits(piece: &[u8], place: usize) -> bool
 pub(crate) fn mask(args: &[u8], store: &mut Store, text: &mut Text<'_>) {
     let place = usize::from(script::words::byte(args, 12));
     let piece = script::words::behind(args, 13);
-    if !fits(piece, place) {
-        return told::refused(text);
+    if fits(piece, place) {
+        let mask = crate::args::mask(script::words::behind(args, 8));
+        mask::apply_mask(piece, store, place, mask, crate::args::big(args) as usize);
+        text.hex(store);
+    } else {
+        told::refused(text);
     }
-    let mask = crate::args::mask(script::words::behind(args, 8));
-    mask::apply_mask(piece, store, place, mask, crate::args::big(args) as usize);
-    text.hex(store);
 }
 
 pub(crate) fn copy(args: &[u8], store: &mut Store, text: &mut Text<'_>) {
     let place = usize::from(script::words::byte(args, 0));
     let piece = script::words::behind(args, 1);
-    if !fits(piece, place) {
-        return told::refused(text);
+    if fits(piece, place) {
+        stores::copy(piece, store, place);
+        text.hex(store);
+    } else {
+        told::refused(text);
     }
-    stores::copy(piece, store, place);
-    text.hex(store);
 }
 
 // A store of n bytes.
