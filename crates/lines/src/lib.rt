@@ -1,7 +1,7 @@
 // Text in lent stores: numbers in decimal, bytes in hexadecimal, and the lines that a listing is made of (document 01, "Replay of a
 // capture"). Each function lays its text over a store from place `at` on and gives the place behind it.
-// Kept: the store and the place stay two parameters. They are those of `capture::step::step`, which hands them on to one call for a line, so
-// that a cursor would be made there for that call alone and taken apart again.
+// Kept: the store and the place stay two parameters. They are those of `capture::step::step`, which hands them on for a line and needs the
+// place behind it as a value: a cursor would be made there for each line and taken apart again.
 #![tactic(auto)]
 
 pub mod line;
