@@ -12,11 +12,15 @@ abbrev pub OneAnswer : (n : ℕ) (ps : List (ParamKind n)) (r : ResultKind n) �
 OneAnswer n ps r P =
     (κs : Lfts n) (a : Dens κs ps) (z z' : (res_t r κs).Denot) (e e' : AtExit (ended_of n ps r) κs) → P κs a z e → P κs a z' e' → z ≡ z'
 
--- one content of a lent store, which `seen` finds among the arguments at exit
-abbrev pub OneStore : (n : ℕ) (ps : List (ParamKind n)) (r : ResultKind n) → ((κs : Lfts n) → AtExit (ended_of n ps r) κs → List ℕ) → Out n ps r → Type 0
-OneStore n ps r seen P =
+-- one value of what is lent, which `seen` finds among the arguments at exit
+abbrev pub OneLent : {A : Type 0} (n : ℕ) (ps : List (ParamKind n)) (r : ResultKind n) → ((κs : Lfts n) → AtExit (ended_of n ps r) κs → A) → Out n ps r → Type 0
+OneLent n ps r seen P =
     (κs : Lfts n) (a : Dens κs ps) (z z' : (res_t r κs).Denot) (e e' : AtExit (ended_of n ps r) κs)
     → P κs a z e → P κs a z' e' → seen κs e ≡ seen κs e'
+
+-- one content of a lent store
+abbrev pub OneStore : (n : ℕ) (ps : List (ParamKind n)) (r : ResultKind n) → ((κs : Lfts n) → AtExit (ended_of n ps r) κs → List ℕ) → Out n ps r → Type 0
+OneStore n ps r seen P = OneLent n ps r seen P
 
 -- one part of a lent store as the answer: its bytes, and its place, which is the block of memory and the offset in it where it begins
 abbrev pub OnePart : (n : ℕ) (ps : List (ParamKind n)) (r : ResultKind n) → ((κs : Lfts n) → (res_t r κs).Denot → List ℕ × (ℕ × ℕ)) → Out n ps r → Type 0

@@ -5,19 +5,13 @@ use Prim.Native.Nat.{ℕ}
 use contract.Lifetimes.{Lfts}
 use denote.Triple.Clauses.{AtExit}
 use borrow.Fn.Kinds.{ParamKind, ResultKind, Dens, res_t, ended_of, Out}
-use Rattle.base.proofs.Promise.{OneAnswer, OneStore}
+use Rattle.base.proofs.Promise.{OneAnswer, OneLent, OneStore}
 use Rattle.session.specs.Reading.{At}
 use Rattle.session.specs.Session.{with_incoming}
 use Rattle.message.proofs.pump.is_more.Kinds as is-more
 use Rattle.message.proofs.pump.is_more.Reads as is-more-reads
 use Rattle.message.proofs.pump.take_bytes.Kinds as take-bytes
 use Rattle.message.proofs.pump.take_bytes.Reads as take-bytes-reads
-
--- one value of what is lent, which `seen` finds among the arguments at exit: what `OneStore` says of bytes, of any type
-abbrev OneLent : {A : Type 0} (n : ℕ) (ps : List (ParamKind n)) (r : ResultKind n) → ((κs : Lfts n) → AtExit (ended_of n ps r) κs → A) → Out n ps r → Type 0
-OneLent n ps r seen P =
-    (κs : Lfts n) (a : Dens κs ps) (z z' : (res_t r κs).Denot) (e e' : AtExit (ended_of n ps r) κs)
-    → P κs a z e → P κs a z' e' → seen κs e ≡ seen κs e'
 
 pub is_more_one : OneAnswer 0 is-more.ps is-more.r is-more-reads.Post
 is_more_one κs a z z' e e' p q = p ∙ sym q

@@ -1,11 +1,6 @@
 -- Any two results that meet a promise are equal, for each public function.
-use mathlib.Core.Path.{◌≡◌, sym, ap, ◌∙◌}
-use mathlib.Core.List.{List}
-use Prim.Native.Nat.{ℕ}
-use contract.Lifetimes.{Lfts}
-use denote.Triple.Clauses.{AtExit}
-use borrow.Fn.Kinds.{ParamKind, ResultKind, Dens, res_t, ended_of, Out}
-use Rattle.base.proofs.Promise.{OneAnswer, OneStore}
+use mathlib.Core.Path.{sym, ap, ◌∙◌}
+use Rattle.base.proofs.Promise.{OneAnswer, OneLent, OneStore}
 use Rattle.session.specs.Replies.{Out as Left}
 use Rattle.replies.proofs.frames.fits_in.Kinds as fits_in
 use Rattle.replies.proofs.frames.fits_in.Reads as fits-in-reads
@@ -21,12 +16,6 @@ use Rattle.replies.proofs.reply.reply_fits.Kinds as reply_fits
 use Rattle.replies.proofs.reply.reply_fits.Reads as reply-fits-reads
 use Rattle.replies.proofs.reply.with_pong.Kinds as with-pong
 use Rattle.replies.proofs.reply.with_pong.Reads as with-pong-reads
-
--- one value of what is lent, which `seen` finds among the arguments at exit: what `OneStore` says of bytes, of any type
-abbrev OneLent : {A : Type 0} (n : ℕ) (ps : List (ParamKind n)) (r : ResultKind n) → ((κs : Lfts n) → AtExit (ended_of n ps r) κs → A) → Out n ps r → Type 0
-OneLent n ps r seen P =
-    (κs : Lfts n) (a : Dens κs ps) (z z' : (res_t r κs).Denot) (e e' : AtExit (ended_of n ps r) κs)
-    → P κs a z e → P κs a z' e' → seen κs e ≡ seen κs e'
 
 -- ---- a frame: the place behind it, and the output store
 pub fits-in_one : OneAnswer 0 fits_in.ps fits_in.r fits-in-reads.Post
