@@ -1,2 +1,3 @@
 pub mod Reading
+pub mod Flags
 pub mod OneAnswer

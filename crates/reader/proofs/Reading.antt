@@ -1,18 +1,16 @@
 -- Laws of a read call: the tests in order, what its reply leaves when it moves, and what bytes lead to.
-use mathlib.Core.Path.{◌≡◌, refl, sym, ap, ap₂, subst, ◌∙◌}
+use mathlib.Core.Path.{◌≡◌, refl, sym, ap, subst, ◌∙◌}
 use mathlib.Core.Bool.{Bool, true, false, not}
-use mathlib.Core.List.{List, [], ◌∷◌}
+use mathlib.Core.List.{List}
 use Prim.Native.Nat.{ℕ, ◌+◌, ◌-◌, ◌≤◌}
 use native.Mathlib.Omega.{arith}
-use borrow.Author.Rules.{rules}
 use borrow.Author.Tests.{ne_eqb, eq-eqb}
-use lib.Dec.{eqb, leb}
+use lib.Dec.{leb}
 use lib.ListN.{length, take}
 use lib.Seq.{length-take-le}
-use Rattle.base.specs.Tests.{both, Test, ◌when◌, first_of}
+use Rattle.base.specs.Tests.{both, first_of}
 use Rattle.base.specs.Table.{pick}
 use Rattle.base.proofs.Choice.{by_test}
-use Rattle.base.proofs.Tests.{settled, first_pass, first_clear}
 use Rattle.frame.specs.Header.{header_size}
 use Rattle.replies.proofs.Encoding.{fits_by}
 use Rattle.session.specs.Calls.{stores_short, turn, read, read_tests, flagged, take_bytes, read_on}
@@ -30,7 +28,6 @@ use Rattle.session.specs.Session.{is_server, is_client, is_peer_closed, with_inc
 use Rattle.session.specs.Reading.{world, At, after}
 use Rattle.reader.specs.Fit.{Shows}
 use Rattle.steady.specs.Shape.{Shaped}
-use Rattle.steady.proofs.Feeding.{fed-sizes}
 use Rattle.steady.proofs.Frames.{Fair}
 use Rattle.steady.proofs.InRangeStays.{fed, fed-fine}
 use Rattle.steady.proofs.OneCall.{outcome}

@@ -1,5 +1,5 @@
 -- `reader::read::read_on` meets its contract: the peer has closed, or the piece lies inside a frame, or bytes are taken.
-use mathlib.Core.Path.{◌≡◌, sym, ap, ◌∙◌}
+use mathlib.Core.Path.{sym, ap, ◌∙◌}
 use native.Mathlib.Omega.{arith}
 use Rattle.session.specs.declared.Session.{Session}
 use Rattle.session.specs.Session.{with_incoming}

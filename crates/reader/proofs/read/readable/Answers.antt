@@ -3,7 +3,6 @@ use mathlib.Core.Path.{◌≡◌, sym, ◌∙◌}
 use mathlib.Core.Bool.{true, false}
 use native.Mathlib.Omega.{arith}
 use borrow.Author.Rules.{rules}
-use lib.ListN.{length}
 use Rattle.base.specs.Tests.{first_of}
 use Rattle.session.specs.Calls.{read_tests}
 use Rattle.session.specs.Range.{in_range}
