@@ -2,8 +2,9 @@
 use crate::held::Held;
 use crate::line::{Call, Sending};
 use crate::room::Stores;
-use crate::told::{self, Text};
-use session::{Answer, Closing, Handed, Masks, Session, Turn};
+use crate::told;
+use script::answers::Text;
+use session::{Answer, Handed, Masks, Session, Turn};
 
 #[derive(Clone, Copy)]
 pub(crate) struct Live {
@@ -30,12 +31,12 @@ fn close(session: Session, bytes: &[u8], masks: Masks, output: &mut [u8]) -> Han
     match bytes.split_first_chunk::<2>() {
         Some((code, reason)) => writer::send::close(
             session,
-            Closing::Code(u16::from_be_bytes(*code)),
+            Some(u16::from_be_bytes(*code)),
             reason,
             masks,
             output,
         ),
-        None => writer::send::close(session, Closing::Empty, b"", masks, output),
+        None => writer::send::close(session, None, b"", masks, output),
     }
 }
 
@@ -145,7 +146,7 @@ impl Live {
 
     fn handed(&mut self, handed: Handed, stores: &mut Stores, text: &mut Text<'_>) {
         told::sent(text, handed.sent);
-        self.called(handed.session, told::refusal(handed.sent).is_some(), stores);
+        self.called(handed.session, handed.sent.is_err(), stores);
     }
 
     // A call, or none where the bytes given have no room behind what is left over.

@@ -68,18 +68,12 @@ pub(crate) enum Sending {
 
 // A number.
 pub(crate) fn number(word: &[u8]) -> Option<usize> {
-    match script::values::decimal(word) {
-        script::values::Value::Is(n) => Some(n as usize),
-        script::values::Value::Bad => None,
-    }
+    script::values::decimal(word).map(|n| n as usize)
 }
 
 // How many bytes HEX has, which are laid over the front of the room.
 fn hex(word: &[u8], room: &mut [u8]) -> Option<usize> {
-    match script::values::hex(word, room) {
-        script::values::Value::Is(n) => Some(n as usize),
-        script::values::Value::Bad => None,
-    }
+    script::values::hex(word, room).map(|n| n as usize)
 }
 
 // The bytes of HEX that has so many.

@@ -12,8 +12,8 @@ mod state;
 mod told;
 
 use crate::state::State;
-use crate::told::Text;
 use input::Window;
+use script::answers::Text;
 use std::io;
 use std::ops::ControlFlow;
 
@@ -49,8 +49,8 @@ impl Script {
 
     fn next(&mut self) -> Next<'_> {
         let window = self.window;
-        let shown = input::shown(&self.bytes, window);
-        let n = script::words::find(shown, b'\n');
+        let shown = window.shown(&self.bytes);
+        let n = script::words::find(shown, b'\n').unwrap_or(shown.len());
         if n <= LONGEST && n == shown.len() {
             if !window.ended {
                 return Next::More;
@@ -59,7 +59,7 @@ impl Script {
                 return Next::End;
             }
         }
-        self.window = input::used(window, input::sum(n, 1));
+        self.window = window.used(input::sum(n, 1));
         self.line = self.line.wrapping_add(1);
         if LONGEST < n {
             return Next::Long;
@@ -100,8 +100,8 @@ impl Run {
     ) -> io::Result<ControlFlow<()>> {
         write(rt, text)?;
         let script = &mut self.script;
-        script.window = input::refill(&mut rt.reader(), &mut script.bytes, script.window);
-        if !script.window.failed {
+        if let Ok(window) = script.window.refill(&mut rt.reader(), &mut script.bytes) {
+            script.window = window;
             return Ok(ControlFlow::Continue(()));
         }
         script.line = script.line.wrapping_add(1);

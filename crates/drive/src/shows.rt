@@ -1,16 +1,17 @@
 // The words that show what there is and change nothing: `held`, `waits`, `state` and `stores`.
 use crate::room::Stores;
-use crate::told::{self, Text};
+use crate::told;
+use script::answers::Text;
 use session::Session;
 
 pub(crate) fn held(session: Session, output: &[u8], text: &mut Text<'_>) {
     match writer::output::held_number(session, output) {
-        0 => {
+        Ok(()) => {
             let bytes = writer::output::held(session, output);
             told::counted(text, b"held", bytes.len() as u64);
             text.hex(bytes);
         }
-        number => told::refused(text, number),
+        Err(refusal) => told::refused(text, refusal.number()),
     }
     text.put(b"\n");
 }

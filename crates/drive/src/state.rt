@@ -3,8 +3,8 @@ use crate::calls::Live;
 use crate::held::Held;
 use crate::line::{Asked, Line, Order};
 use crate::room::Stores;
-use crate::shows;
-use crate::told::{self, Text};
+use crate::{shows, told};
+use script::answers::Text;
 
 #[derive(Drop)]
 pub(crate) struct State {
@@ -56,14 +56,14 @@ impl State {
         self.held.clear();
         self.stores.begin(asked.message);
         let made = session::new::new(asked.role, asked.frame, asked.message, asked.unmasked);
-        match told::refusal(made.sent) {
-            None => {
+        match made.sent {
+            Ok(()) => {
                 self.live = Some(Live::new(made.session));
                 text.put(line);
             }
-            Some(number) => {
+            Err(refusal) => {
                 self.live = None;
-                told::refused(text, number);
+                told::refused(text, refusal.number());
             }
         }
         text.put(b"\n");

@@ -1,26 +1,7 @@
 // The answers as text.
-use session::{Answer, Sent};
-
-// The answers that are not written yet, and the place behind them.
-#[derive(Drop)]
-pub(crate) struct Text<'a> {
-    pub(crate) store: &'a mut [u8],
-    pub(crate) at: usize,
-}
-
-impl Text<'_> {
-    pub(crate) fn put(&mut self, word: &[u8]) {
-        self.at = script::answers::put(self.store, self.at, word);
-    }
-
-    pub(crate) fn number(&mut self, n: u64) {
-        self.at = script::answers::number(self.store, self.at, n);
-    }
-
-    pub(crate) fn hex(&mut self, bytes: &[u8]) {
-        self.at = script::answers::hex(self.store, self.at, bytes);
-    }
-}
+use script::answers::Text;
+use session::Answer;
+use session::refusal::Refusal;
 
 // A word and the number behind it.
 pub(crate) fn counted(text: &mut Text<'_>, word: &[u8], n: u64) {
@@ -46,18 +27,10 @@ pub(crate) fn answer(text: &mut Text<'_>, answer: Answer) {
     }
 }
 
-// The number that a call was refused with.
-pub(crate) fn refusal(sent: Sent) -> Option<u8> {
-    match sent {
-        Sent::Done => None,
-        Sent::Refused(number) => Some(number),
-    }
-}
-
 // What a sending call or a take answers.
-pub(crate) fn sent(text: &mut Text<'_>, sent: Sent) {
-    match refusal(sent) {
-        None => text.put(b"ok"),
-        Some(number) => refused(text, number),
+pub(crate) fn sent(text: &mut Text<'_>, sent: Result<(), Refusal>) {
+    match sent {
+        Ok(()) => text.put(b"ok"),
+        Err(refusal) => refused(text, refusal.number()),
     }
 }

@@ -46,8 +46,8 @@ impl Run {
 
     // More bytes of the file are wanted. A read that fails is not the file's end: the listing then has no last line, and it is said.
     fn more(&mut self, rt: &(impl Input + Print + Eprint)) -> io::Result<ControlFlow<()>> {
-        self.window = input::refill(&mut rt.reader(), &mut self.bytes, self.window);
-        if !self.window.failed {
+        if let Ok(window) = self.window.refill(&mut rt.reader(), &mut self.bytes) {
+            self.window = window;
             return Ok(ControlFlow::Continue(()));
         }
         let written = self.write(rt);
@@ -61,7 +61,7 @@ impl Run {
     fn turn(&mut self, rt: &(impl Input + Print + Eprint)) -> io::Result<ControlFlow<()>> {
         let stepped = capture::step::step(
             self.replay,
-            input::shown(&self.bytes, self.window),
+            self.window.shown(&self.bytes),
             self.window.ended,
             &mut self.message,
             &mut self.control,
@@ -70,7 +70,7 @@ impl Run {
             self.at,
         );
         self.replay = stepped.replay;
-        self.window = input::used(self.window, stepped.used);
+        self.window = self.window.used(stepped.used);
         match stepped.came {
             Came::Lacking => self.more(rt),
             Came::Full => {
