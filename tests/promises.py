@@ -31,6 +31,9 @@ import tried
 FELL_WITH_ANOTHER = " not checked: "
 LOST_ITS_FIT = ["can be named from here", "has no field", "is not in scope"]
 
+# The first line of an `impl`: the trait and what it is given, where it has one, and the type.
+IMPL = re.compile(r"impl(?:<[^>]*>)? (?:(\w+)(?:<(\w+)>)? for )?(\w+)")
+
 # A word of a proof, and how the names of goals and steps begin that follow the code.
 WORD = re.compile(r"[^\s(){}\[\].,;:`]+")
 NAMED_BY_CODE = re.compile(r"(returns|if|in|then|else|loop|bounds|slice_bounds|shape_of|overflow_\w+)-")
@@ -64,19 +67,27 @@ class Function:
         self.path, self.public, self.first, self.last = path, public, first, last
 
 
+def owner_of(opened):
+    """The type of an `impl`; of a trait's, the name that `rt` gives to its folder of proofs: OpCodeFromU8 for `From<u8> for OpCode`."""
+    trait, argument, owner = opened.groups(default="")
+    return owner[0].upper() + owner[1:] + trait + argument[:1].upper() + argument[1:] if trait else owner
+
+
 def functions_in(file):
-    """The functions of a file of src/, in the layout of `rt fmt`: a function ends with a brace under its first letter."""
+    """The functions of a file of src/, in the layout of `rt fmt`: a function ends with a brace under its first letter. A trait's function is
+    as public as its type, which those of a library are."""
     module = [] if file.stem in ("lib", "main") else [file.stem]
     lines = file.read_text(encoding="utf-8").splitlines()
-    owner = []
+    owner, of_trait = [], False
     for number, line in enumerate(lines):
-        opened = re.match(r"impl (\w+)", line)
+        opened = IMPL.match(line)
         if opened or line.startswith("}"):
-            owner = [opened[1]] if opened else []
+            owner = [owner_of(opened)] if opened else []
+            of_trait = bool(opened and opened[1])
         found = re.match(r"( *)(pub(?:\(crate\))? )?fn (\w+)", line)
         if found:
             last = lines.index(found[1] + "}", number)
-            yield Function("::".join([*module, *owner, found[3]]), found[2] == "pub ", number, last)
+            yield Function("::".join([*module, *owner, found[3]]), found[2] == "pub " or of_trait, number, last)
 
 
 def function_at(file, line):

@@ -7,6 +7,8 @@ use Rattle.session.specs.Refusals.{sent_of}
 use Rattle.session.proofs.Refusals.{numbered_one, sent_one}
 use Rattle.session.proofs.new.new.Kinds as new-kinds
 use Rattle.session.proofs.new.new.Reads as new-reads
+use Rattle.session.proofs.new.U8FromRole.from.Kinds as role-kinds
+use Rattle.session.proofs.new.U8FromRole.from.Reads as role-reads
 use Rattle.session.proofs.range.header_verdict.Kinds as verdict-kinds
 use Rattle.session.proofs.range.header_verdict.Reads as verdict-reads
 use Rattle.session.proofs.range.in_range_by.Kinds as range-by-kinds
@@ -17,6 +19,8 @@ use Rattle.session.proofs.range.in_range.Kinds as range-kinds
 use Rattle.session.proofs.range.in_range.Reads as range-reads
 use Rattle.session.proofs.range.waits.Kinds as waits-kinds
 use Rattle.session.proofs.range.waits.Reads as waits-reads
+use Rattle.session.proofs.refusal.Refusal.number.Kinds as refusal-kinds
+use Rattle.session.proofs.refusal.Refusal.number.Reads as refusal-reads
 
 -- an answer to a sending call and the session that is handed back, which the promise has as the definitions say them
 pub handed_one : (h h' : Handed) → handed (sent_of h.sent) h.session ≡ handed (sent_of h'.sent) h'.session → h ≡ h'
@@ -26,6 +30,12 @@ handed_one h h' e =
 
 pub new_one : OneAnswer 0 new-kinds.ps new-kinds.r new-reads.Post
 new_one κs a r r' e e' p q = handed_one r r' (p ∙ sym q)
+
+pub role_number_one : OneAnswer 0 role-kinds.ps role-kinds.r role-reads.Post
+role_number_one κs a r r' e e' p q = p ∙ sym q
+
+pub refusal_number_one : OneAnswer 0 refusal-kinds.ps refusal-kinds.r refusal-reads.Post
+refusal_number_one κs a r r' e e' p q = p ∙ sym q
 
 pub header_verdict_one : OneAnswer 1 verdict-kinds.ps verdict-kinds.r verdict-reads.Post
 header_verdict_one κs a r r' e e' p q = numbered_one r r' (p ∙ sym q)
