@@ -139,8 +139,9 @@ impl Run {
     }
 
     // Turns to the script's end. The answers are written out once they fill an eighth of their room: what is left has room for those of
-    // the longest turn, of `stores` that shows 70,000 bytes, 256 and 140,000. A proved loop has to end, and nothing says that the script
-    // does. So the loop counts its turns, up to a number that no run uses up.
+    // the longest turn, of `stores` that shows 70,000 bytes, 256 and 140,000.
+    // Kept: the loop counts its turns, up to a number that no run uses up, since a proved loop has to end and nothing says that the script
+    // does.
     fn to_end(
         &mut self,
         rt: &(impl Input + Print + Eprint),
@@ -159,7 +160,7 @@ impl Run {
     }
 }
 
-// It does not stand where the array does, since that is dear to check.
+// Kept: the array is lent to it, since a slice of it where it is made is more than the check can follow.
 fn drive(rt: &(impl Input + Print + Eprint), answers: &mut [u8; 524288]) -> io::Result<()> {
     let mut text = Text {
         store: answers,

@@ -89,8 +89,9 @@ impl Run {
         }
     }
 
-    // Steps to the listing's end. A proved loop has to end, and nothing says that the input does. So the loop counts its turns, up to a
-    // number that no run uses up.
+    // Steps to the listing's end.
+    // Kept: the loop counts its turns, up to a number that no run uses up, since a proved loop has to end and nothing says that the input
+    // does.
     fn to_end(&mut self, rt: &(impl Input + Print + Eprint)) -> io::Result<()> {
         for _ in 0..u64::MAX {
             if self.turn(rt)?.is_break() {
