@@ -16,10 +16,10 @@ use Rattle.coding.specs.Opcodes.{opcode_of, opcode_number}
 use Rattle.frame.specs.Header.{Second}
 use Rattle.frame.specs.declared.header.FrameHeader.{FrameHeader}
 use Rattle.std.specs.Prelude.{None, Some}
-use Rattle.frame.specs.Header.{first_of, second_of, length_of, size_by, missing, header, header_of, parsed, no_mask, mask_in, length_code, length_bytes, flags, first_byte, second_byte, header_bytes, header_size}
+use Rattle.frame.specs.Header.{first_of, second_of, length_of, size_by, missing, header, header_of, parsed, no_mask, mask_in, mask_given, length_code, length_bytes, flags, first_byte, second_byte, header_bytes, header_size}
 use Rattle.frame.proofs.Flags.{split_joined_first, split_joined_second}
 use Rattle.frame.proofs.Lengths.{code_most, extra_written, length-read_back}
-use Rattle.frame.proofs.Headers.{size_split, missing-early, missing-later, parsed-lacking, parsed-whole, mask_none, mask_there, length-header_bytes}
+use Rattle.frame.proofs.Headers.{size_split, missing-early, missing-later, parsed-lacking, parsed-whole, mask_none, mask_there, given-none, given-there, length-header_bytes}
 
 module _ (f : FrameHeader) (mask : List ℕ) (four : length mask ≡ 4) where
   -- its second byte, and the size that this says
@@ -76,6 +76,17 @@ module _ (f : FrameHeader) (mask : List ℕ) (four : length mask ≡ 4) where
     pub no_mask_read_back : f.masked ≡ false → mask_in stream ≡ no_mask
     unfolding header_bytes
     no_mask_read_back m = mask_none stream whole (ap (λ (s : Second). s.masked) second_back ∙ m)
+
+    -- which is given where there is one
+    pub mask_given_back : f.masked ≡ true → mask_given stream ≡ Some mask
+    unfolding header_bytes
+    mask_given_back m =
+        given-there stream whole (ap (λ (s : Second). s.masked) second_back ∙ m)
+        ∙ ap Some (sym (mask_there stream whole (ap (λ (s : Second). s.masked) second_back ∙ m)) ∙ mask_read_back m)
+
+    pub no_mask_given_back : f.masked ≡ false → mask_given stream ≡ None
+    unfolding header_bytes
+    no_mask_given_back m = given-none stream whole (ap (λ (s : Second). s.masked) second_back ∙ m)
 
   -- before its last byte
   pub lacking_before : (k : ℕ) → k < header_size f.masked f.length → parsed (take k (header_bytes f mask)) ≡ None

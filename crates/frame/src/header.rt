@@ -7,7 +7,8 @@ ghost use Rattle.frame.specs.Header.{size_by, missing, parsed, mask_given, heade
 use crate::length;
 use coding::opcode::OpCode;
 
-// What a header says, but for its mask, which is read where payload is unmasked: `mask_of`.
+// What a header says, but for the bytes of its mask, which are read where payload is unmasked: `mask_of`. Kept: `masked` is a flag, and the
+// mask stands beside the header, since `header_bytes` and the laws `header-read_back` and `mask_read_back` take them so.
 #[derive(Clone, Copy)]
 pub struct FrameHeader {
     pub fin: bool,
