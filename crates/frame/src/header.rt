@@ -39,6 +39,7 @@ pub fn missing(bytes: &[u8]) -> usize
 }
 
 // Reads the header that the bytes begin with, where it is whole; those behind it are not looked at.
+#[tactic(auto, using(crate::proofs::Headers::whole_length))]
 pub fn parse(bytes: &[u8]) -> Option<FrameHeader>
     ensures { result ≡ parsed bytes.now }
 {
@@ -58,6 +59,7 @@ pub fn parse(bytes: &[u8]) -> Option<FrameHeader>
 }
 
 // The mask of a whole header that has one.
+#[tactic(auto, using(crate::proofs::Headers::mask_place, crate::proofs::Headers::whole_length))]
 pub fn mask_of(bytes: &[u8]) -> Option<[u8; 4]>
     ensures { result ≡ mask_given bytes.now }
 {

@@ -3,12 +3,9 @@ use mathlib.Core.Path.{sym, ap, ◌∙◌}
 use native.Mathlib.Omega.{arith}
 use Rattle.std.specs.Prelude.{Some, ◌-◌}
 use Rattle.base.proofs.Bytes.{part-four}
-use Rattle.frame.proofs.Headers.{masked_set, masked_clear, whole_length, mask_place, given-lacking, given-none, given-there}
+use Rattle.frame.proofs.Headers.{masked_set, masked_clear, mask_place, given-lacking, given-none, given-there}
 use Rattle.frame.proofs.header.mask_of.Goals as goal
 use Rattle.frame.proofs.header.mask_of.Goals.{then-missing-ne0-via-then-missing-ne0, then-missing-ne0-via-else-missing-ne0+then-bytes-eq0}
-
-pub bounds-bytes-1 : goal.bounds-bytes-1
-bounds-bytes-1 c = omega (arith, whole_length c.args.bytes.now (sym c.missing.ensures ∙ c.if-missing-ne0.false))
 
 pub returns-then-missing-ne0 : goal.returns-then-missing-ne0
 returns-then-missing-ne0 c =
@@ -17,21 +14,6 @@ returns-then-missing-ne0 c =
       | then-missing-ne0-via-else-missing-ne0+then-bytes-eq0 w ↦
           sym (given-none _ (sym c.missing.ensures ∙ w.if-missing-ne0.false) (masked_clear _ w.if-bytes-eq0.true))
     ]
-
-pub overflow_sub-at : goal.overflow_sub-at
-overflow_sub-at c = omega (arith, mask_place _ c.missing.ensures c.if-missing-ne0.false c.size_by-at.ensures.0 c.if-bytes-eq0.false)
-
-pub bounds-bytes-at : goal.bounds-bytes-at
-bounds-bytes-at c = omega (arith, mask_place _ c.missing.ensures c.if-missing-ne0.false c.size_by-at.ensures.0 c.if-bytes-eq0.false)
-
-pub bounds-bytes-at-2 : goal.bounds-bytes-at-2
-bounds-bytes-at-2 c = omega (arith, mask_place _ c.missing.ensures c.if-missing-ne0.false c.size_by-at.ensures.0 c.if-bytes-eq0.false)
-
-pub bounds-bytes-at-3 : goal.bounds-bytes-at-3
-bounds-bytes-at-3 c = omega (arith, mask_place _ c.missing.ensures c.if-missing-ne0.false c.size_by-at.ensures.0 c.if-bytes-eq0.false)
-
-pub bounds-bytes-at-4 : goal.bounds-bytes-at-4
-bounds-bytes-at-4 c = omega (arith, mask_place _ c.missing.ensures c.if-missing-ne0.false c.size_by-at.ensures.0 c.if-bytes-eq0.false)
 
 pub returns : goal.returns
 returns c =

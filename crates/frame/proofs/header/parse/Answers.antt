@@ -4,17 +4,11 @@ use native.Mathlib.Omega.{arith}
 use lib.ListN.{get_or}
 use Rattle.std.specs.Prelude.{Some, ℕ}
 use Rattle.frame.specs.Header.{length_of}
-use Rattle.frame.proofs.Headers.{code_low, extra_within, whole_length, whole_size, parsed-lacking, parsed-whole, header_parts}
+use Rattle.frame.proofs.Headers.{code_low, extra_within, whole_size, parsed-lacking, parsed-whole, header_parts}
 use Rattle.frame.proofs.header.parse.Goals as goal
 
 pub returns-then-missing-ne0 : goal.returns-then-missing-ne0
 returns-then-missing-ne0 c = sym (parsed-lacking _ (λ e. c.if-missing-ne0.true (c.missing.ensures ∙ e)))
-
-pub bounds-bytes-0 : goal.bounds-bytes-0
-bounds-bytes-0 c = omega (arith, whole_length c.args.bytes.now (sym c.missing.ensures ∙ c.if-missing-ne0.false))
-
-pub bounds-bytes-1 : goal.bounds-bytes-1
-bounds-bytes-1 c = omega (arith, whole_length c.args.bytes.now (sym c.missing.ensures ∙ c.if-missing-ne0.false))
 
 pub length_of-requires : goal.length_of-requires
 length_of-requires c =
