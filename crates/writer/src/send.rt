@@ -24,6 +24,7 @@ fn sendable(session: &Session, bad: bool, output: &[u8]) -> Result<(), Refusal>
 }
 
 // One final frame whose payload is `lead` and then the piece, and then the waiting reply. The session is then in the state given.
+// Kept: the frame's parts as parameters. In a struct, lent or by value, each call copies the session once more.
 #[tactic(auto, using(session::proofs::Refusals::number_some), unfolding(base::specs::Tests::first_of, session::specs::Calls::send_frame, session::specs::Calls::send_tests, session::specs::Calls::output_short))]
 fn send_frame(
     session: &mut Session,
