@@ -74,8 +74,9 @@ def owner_of(opened):
 
 
 def functions_in(file):
-    """The functions of a file of src/, in the layout of `rt fmt`: a function ends with a brace under its first letter. A trait's function is
-    as public as its type, which those of a library are."""
+    """The functions of a file of src/, in the layout of `rt fmt`: a function begins with its attributes, of which
+    the check speaks by their line, and ends with a brace under its first letter. A trait's function is as public as its type, which those of a
+    library are."""
     module = [] if file.stem in ("lib", "main") else [file.stem]
     lines = file.read_text(encoding="utf-8").splitlines()
     owner, of_trait = [], False
@@ -87,7 +88,10 @@ def functions_in(file):
         found = re.match(r"( *)(pub(?:\(crate\))? )?fn (\w+)", line)
         if found:
             last = lines.index(found[1] + "}", number)
-            yield Function("::".join([*module, *owner, found[3]]), found[2] == "pub " or of_trait, number, last)
+            first = number
+            while lines[first - 1].lstrip().startswith("#["):
+                first -= 1
+            yield Function("::".join([*module, *owner, found[3]]), found[2] == "pub " or of_trait, first, last)
 
 
 def function_at(file, line):
