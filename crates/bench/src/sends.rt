@@ -10,7 +10,8 @@ pub(crate) fn masks_of(mask: u32) -> Masks {
 }
 
 // Sends payloads of `size` bytes that stand one behind the other, each as one message, and takes all that is held behind each. Gives the bytes
-// that were taken. Of payloads without a byte one is sent.
+// that were taken.
+// Kept: no `chunks`, which has none of size 0. Of payloads without a byte one is sent.
 fn send_all<F: Fn(Session, &[u8], Masks, &mut [u8]) -> Handed>(
     send: F,
     client: bool,
