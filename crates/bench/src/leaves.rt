@@ -23,5 +23,5 @@ pub fn bench_mask_bytes(piece: &[u8], store: &mut [u8], mask: u32) -> bool {
 
 // Whether a piece is a whole text.
 pub fn bench_utf8(piece: &[u8]) -> bool {
-    utf8::is_whole(utf8::scan(utf8::START, piece).progress)
+    utf8::is_text(piece)
 }

@@ -33,9 +33,7 @@ fn reason_holds(payload: &[u8]) -> bool
     ensures { result ≡ reason_holds payload.now }
 {
     match frame::close::into_close(payload) {
-        ClosePayload::CodeAndReason(_) => {
-            utf8::is_whole(utf8::scan(utf8::START, &payload[2..]).progress)
-        }
+        ClosePayload::CodeAndReason(_) => utf8::is_text(&payload[2..]),
         ClosePayload::Empty | ClosePayload::OneByte => true,
     }
 }

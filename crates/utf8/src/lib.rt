@@ -3,7 +3,7 @@
 
 ghost use Rattle.std.specs.Prelude.{◌≡◌, [], ◌∷◌};
 ghost use Rattle.base.specs.Table.{◌to◌is◌, value_at};
-ghost use Rattle.utf8.specs.Progress.{lead_rows, stepped, scanned, is_whole, is_beginning};
+ghost use Rattle.utf8.specs.Progress.{lead_rows, stepped, scanned, progress_after, is_whole, is_beginning};
 
 // Kept: a progress is a number and no enum, since `step`, `is_whole` and `is_beginning` promise something of the numbers that name none too: a
 // caller's session may hold one.
@@ -101,4 +101,12 @@ pub fn is_beginning(progress: u8) -> bool
     ensures { result ≡ is_beginning progress }
 {
     progress < BAD
+}
+
+// Whether the bytes are a whole text.
+#[tactic(auto, unfolding(crate::specs::Progress::scanned))]
+pub fn is_text(bytes: &[u8]) -> bool
+    ensures { result ≡ is_whole (progress_after 0 bytes.now) }
+{
+    is_whole(scan(START, bytes).progress)
 }

@@ -59,18 +59,26 @@ fn send_frame(
     Ok(())
 }
 
-#[tactic(auto, unfolding(utf8::specs::Progress::scanned))]
-fn is_text(bytes: &[u8]) -> bool
-    ensures { result ≡ is_whole (progress_after 0 bytes.now) }
-{
-    utf8::is_whole(utf8::scan(utf8::START, bytes).progress)
-}
-
 // A reason that is no text, or too long for a code before it.
 fn is_bad_reason(reason: &[u8]) -> bool
     ensures { result ≡ either (ltb 123 (length reason.now)) (not (is_whole (progress_after 0 reason.now))) }
 {
-    123 < reason.len() || !is_text(reason)
+    123 < reason.len() || !utf8::is_text(reason)
+}
+
+// The same for a payload of one part, which leaves the session in its state.
+fn send(
+    session: &mut Session,
+    opcode: OpCode,
+    bad: bool,
+    payload: &[u8],
+    masks: Masks,
+    output: &mut [u8],
+) -> Result<(), Refusal>
+    ensures { sending (sent_of result) session.new output.new ≡ send_frame session.old session.old.state opcode bad payload.now masks output.old }
+{
+    let state = session.state;
+    send_frame(session, state, opcode, bad, &[], payload, masks, output)
 }
 
 // Sends a text.
@@ -78,21 +86,9 @@ fn is_bad_reason(reason: &[u8]) -> bool
 pub fn text(mut session: Session, payload: &[u8], masks: Masks, output: &mut [u8]) -> Handed
     ensures { sending (sent_of result.sent) result.session output.new ≡ text_call session payload.now masks output.old }
 {
-    let (state, opcode) = (session.state, OpCode::Data(Data::Text));
-    let bad = !is_text(payload);
-    Handed {
-        sent: send_frame(
-            &mut session,
-            state,
-            opcode,
-            bad,
-            &[],
-            payload,
-            masks,
-            output,
-        ),
-        session,
-    }
+    let (opcode, bad) = (OpCode::Data(Data::Text), !utf8::is_text(payload));
+    let sent = send(&mut session, opcode, bad, payload, masks, output);
+    Handed { sent, session }
 }
 
 // Sends a binary message.
@@ -100,20 +96,9 @@ pub fn text(mut session: Session, payload: &[u8], masks: Masks, output: &mut [u8
 pub fn binary(mut session: Session, payload: &[u8], masks: Masks, output: &mut [u8]) -> Handed
     ensures { sending (sent_of result.sent) result.session output.new ≡ binary_call session payload.now masks output.old }
 {
-    let (state, opcode) = (session.state, OpCode::Data(Data::Binary));
-    Handed {
-        sent: send_frame(
-            &mut session,
-            state,
-            opcode,
-            false,
-            &[],
-            payload,
-            masks,
-            output,
-        ),
-        session,
-    }
+    let opcode = OpCode::Data(Data::Binary);
+    let sent = send(&mut session, opcode, false, payload, masks, output);
+    Handed { sent, session }
 }
 
 // Sends a ping.
@@ -121,21 +106,9 @@ pub fn binary(mut session: Session, payload: &[u8], masks: Masks, output: &mut [
 pub fn ping(mut session: Session, payload: &[u8], masks: Masks, output: &mut [u8]) -> Handed
     ensures { sending (sent_of result.sent) result.session output.new ≡ ping_call session payload.now masks output.old }
 {
-    let (state, opcode) = (session.state, OpCode::Control(Control::Ping));
-    let bad = 125 < payload.len();
-    Handed {
-        sent: send_frame(
-            &mut session,
-            state,
-            opcode,
-            bad,
-            &[],
-            payload,
-            masks,
-            output,
-        ),
-        session,
-    }
+    let (opcode, bad) = (OpCode::Control(Control::Ping), 125 < payload.len());
+    let sent = send(&mut session, opcode, bad, payload, masks, output);
+    Handed { sent, session }
 }
 
 // Sends a close: an empty one where there is no code, for which the reason is not looked at, or a code and a reason.
