@@ -54,7 +54,8 @@ pub struct Stepped {
     pub replay: Replay,
 }
 
-// The room that the longest line may need.
+// The room that the longest line may need. Kept: the functions that lay a line ask for it, each in its contract. Store and place in a struct
+// with this as a ghost field would be taken apart again for the functions of `lines`.
 const LINE_ROOM: usize = 65600;
 
 const ZERO_MASKS: Masks = Masks {

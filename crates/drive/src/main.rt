@@ -75,7 +75,8 @@ struct Run {
     state: State,
 }
 
-// Writes the answers so far.
+// Writes the answers so far. Kept: here and in `vectors`. As a method of script's cursor it promised nothing of the cursor's bytes: that they
+// stay was not proved behind a write that may fail.
 fn write(rt: &impl Print, text: &mut Text<'_>) -> io::Result<()> {
     let at = text.at;
     rt.write_all(input::front(text.store, at))?;

@@ -26,6 +26,9 @@ pub fn is_more(answer: Answer) -> bool
     matches!(answer, Answer::More)
 }
 
+// Kept: a turn takes the piece and the place in it, and not the rest of the piece. The place is how many bytes are taken, which each turn's
+// promise counts (`Turned`).
+
 // How many payload bytes are still to come.
 fn left_of(header: FrameHeader, incoming: &Incoming) -> usize
     ensures { result ≡ header.length - incoming.now.counted }

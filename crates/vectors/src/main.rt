@@ -151,7 +151,7 @@ impl Next {
     }
 }
 
-// Writes what is answered so far.
+// Writes what is answered so far. Kept: here and in `drive`, see there.
 fn write_out(rt: &impl Print, text: &mut Text<'_>) -> io::Result<()> {
     let at = text.at;
     rt.write_all(input::front(text.store, at))?;
