@@ -9,7 +9,7 @@ ghost use Rattle.capture.specs.Steps.{begun, stepped, step, lastly, in_role, in_
 
 use crate::place::{FilePlace, StreamPlace};
 use crate::record::{self, Found};
-use session::{Answer, Masks, Role, Session};
+use session::{Answer, Role, Session};
 
 // What is to be done next: the role record, a record, a call on what is left of a record, the taking of the output that a call left, the
 // line of its answer, or nothing more.
@@ -57,11 +57,6 @@ pub struct Stepped {
 // The room that the longest line may need. Kept: the functions that lay a line ask for it, each in its contract. Store and place in a struct
 // with this as a ghost field would be taken apart again for the functions of `lines`.
 const LINE_ROOM: usize = 65600;
-
-const ZERO_MASKS: Masks = Masks {
-    first: [0; 4],
-    second: [0; 4],
-};
 
 // The session of a capture: both limits are 32,768, and frames to a server are masked.
 #[tactic(auto, unfolding(crate::specs::Listing::made))]
@@ -195,7 +190,7 @@ fn at_call(
         replay.session,
         piece,
         replay.end,
-        ZERO_MASKS,
+        session::NO_MASKS,
         message,
         control,
         output,

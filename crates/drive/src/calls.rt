@@ -19,13 +19,6 @@ pub(crate) struct Live {
     all: Option<bool>,
 }
 
-fn no_masks() -> Masks {
-    Masks {
-        first: [0; 4],
-        second: [0; 4],
-    }
-}
-
 // An empty close, or one whose code is the first two bytes.
 fn close(session: Session, bytes: &[u8], masks: Masks, output: &mut [u8]) -> Handed {
     match bytes.split_first_chunk::<2>() {
@@ -44,7 +37,7 @@ impl Live {
     pub(crate) fn new(session: Session) -> Live {
         Live {
             session,
-            masks: no_masks(),
+            masks: session::NO_MASKS,
             keep: false,
             refused: false,
             all: None,
@@ -60,7 +53,7 @@ impl Live {
 
     // The end of a call that takes masks: they are used up, and the held bytes are shown and taken, but where output is kept.
     fn put_out(&mut self, stores: &mut Stores, text: &mut Text<'_>) {
-        self.masks = no_masks();
+        self.masks = session::NO_MASKS;
         if !self.keep {
             let bytes = writer::output::held(self.session, stores.output());
             let n = bytes.len();

@@ -124,3 +124,9 @@ pub struct Masks {
     pub first: [u8; 4],
     pub second: [u8; 4],
 }
+
+// Masks of zeros, which leave a payload as it is.
+pub const NO_MASKS: Masks = Masks {
+    first: [0; 4],
+    second: [0; 4],
+};
