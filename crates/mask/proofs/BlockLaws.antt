@@ -1,18 +1,17 @@
 -- Laws of masking by blocks of eight bytes.
 use mathlib.Core.Path.{◌≡◌, refl, sym, ap, ap₂, ◌∙◌}
-use mathlib.Core.List.{List, [], ◌∷◌, ◌++◌, append_assoc}
+use mathlib.Core.List.{List, [], ◌∷◌, ◌++◌}
 use Prim.Native.Nat.{ℕ, zero, suc, ◌+◌, ◌-◌, ◌*◌, ◌/◌, ◌%◌, ◌<◌, ◌≤◌}
 use native.Mathlib.Nat.{add-zero, zero-add, add-suc}
 use native.Mathlib.Omega.{arith}
 use lib.Bits.{bit_xor}
 use lib.ListN.{length, get_or, take, drop, length-drop}
 use lib.Seq.{take-add, take_all, length-take-le, ext_get_or, drop-drop}
-use borrow.Rule.Slice.PartMut.{put_mid}
 use Rattle.std.specs.Simd.{first_chunks}
 use Rattle.base.specs.Bytes.{part}
 use Rattle.base.specs.Stores.{laid}
 use Rattle.base.proofs.Bytes.{length_part}
-use Rattle.base.proofs.Stores.{laid-append, laid-split}
+use Rattle.base.proofs.Stores.{laid-append}
 use Rattle.mask.specs.Blocks.{key_at, xored, in_blocks}
 use Rattle.mask.specs.Mask.{masked}
 use Rattle.mask.proofs.Laws.{length-masked, masked-at, masked-append}
@@ -30,11 +29,6 @@ chunk_at (suc n) (suc i) s h =
 -- block i of a slice's blocks
 pub block_at : (s : List ℕ) (n i : ℕ) {blocks : List (List ℕ)} → blocks ≡ first_chunks 8 n s → i < n → get_or blocks i [] ≡ part (8 * i) 8 s
 block_at s n i e h = rw e (chunk_at n i s h)
-
--- what is written to a part of a store is laid over it
-pub laid_over : (d : List ℕ) (at n : ℕ) (s : List ℕ) {written : List ℕ} → written ≡ s → n ≡ length s → at + n ≤ length d
-    → put_mid at n d written ≡ laid d at s
-laid_over d at n s w e h = rw (w, laid-split d at s (omega arith), append_assoc, ← e, drop-drop n at d)
 
 -- ---- the phase
 
