@@ -23,7 +23,7 @@ pub enum Due {
     Nothing,
 }
 
-// A replay between two steps.
+// A replay between two steps. Kept: `left` and `end` beside `due`, since `step` promises what it does of every replay (`step_call`).
 #[derive(Clone, Copy)]
 pub struct Replay {
     pub session: Session,

@@ -17,7 +17,7 @@ pub(crate) fn extra_bytes(code: u8) -> usize
     }
 }
 
-// The bytes as a number, most significant first.
+// The bytes as a number, most significant first. Kept: by a `for`, and not by `from_be_bytes`, which the two sizes of a run would want twice.
 fn big(bytes: &[u8]) -> u64
     requires { length bytes.now ≤ 8 }
     ensures { result ≡ from_big bytes.now }

@@ -2,6 +2,8 @@
 ghost use Rattle.std.specs.Prelude.{◌≡◌, ◌∷◌, [], ◌+◌, ◌≤◌, ◌<◌, length};
 ghost use Rattle.lines.specs.Text.{Wrote, digit_of, decimal, decimal_in, hex};
 
+// Kept: digits are laid one by one, and not by `write!`: the promise is of the whole store, and of a place behind the text.
+
 // The digit of the four low bits.
 fn digit(n: u8) -> u8
     ensures { result ≡ digit_of n }

@@ -29,7 +29,8 @@ pub fn fits_in(client: bool, length: usize, room: usize) -> bool
     length <= room && frame::header::header_size(client, length as u64) <= room - length
 }
 
-// A whole frame from place `at` on; its payload is `lead`, where a close has its code, and then the piece. Gives the place behind it.
+// A whole frame from place `at` on; its payload is `lead`, where a close has its code, and then the piece. Gives the place behind it. Kept: the
+// mask beside the role, and not where there is one alone: a call has masks whatever its role (document 01).
 #[tactic(auto, unfolding(session::specs::Replies::frame_header))]
 pub fn put_frame(
     client: bool,

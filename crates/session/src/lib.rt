@@ -32,7 +32,7 @@ pub const TERMINATED: u8 = 4;
 
 // Kept: role, state, progress and refusal are numbers, since number 20 speaks of sessions whose numbers name none (document 01).
 // Kept: bytes stand in arrays with a count beside them (`kept` and `header`, `length` and `payload`), since memory is fixed, and number 20
-// speaks of counts beyond the arrays.
+// speaks of counts beyond the arrays. What waits stands beside its payload, whose bytes stay as they were when nothing waits (`no_reply`).
 // The wide fields of a struct stand before the narrow ones: what lies between them would be copied with each session.
 #[derive(Clone, Copy)]
 pub struct Settings {
@@ -51,8 +51,8 @@ pub struct Incoming {
     pub kept: usize,
     // payload bytes counted
     pub counted: usize,
-    // the bytes of the fragments so far, where a fragmented message is begun. Kept: beside `begun`, since number 20 looks at it with no
-    // message begun too
+    // the bytes of the fragments so far, where a fragmented message is begun. Kept: beside `begun`, as `text` is, since number 20 looks at it
+    // with no message begun too, and a session may hold any of them
     pub fragments: usize,
     // the header's bytes
     pub header: [u8; 14],

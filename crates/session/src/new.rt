@@ -58,8 +58,7 @@ impl From<Role> for u8 {
     }
 }
 
-// A session with these limits, Active; or a refusal beside one that is Terminated. Kept: `new_call` promises that session too, and drive
-// goes on with it.
+// A session with these limits, Active; or a refusal beside one that is Terminated. Kept: `new_call` promises that session too.
 #[tactic(auto, unfolding(crate::specs::Calls::new_call))]
 pub fn new(role: Role, frame: usize, message: usize, unmasked: bool) -> Handed
     ensures { handed (sent_of result.sent) result.session ≡ new_call role frame message unmasked }

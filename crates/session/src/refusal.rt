@@ -39,6 +39,7 @@ pub enum Refusal {
     OutOfRange,
 }
 
+// Kept: a method and no `From`, since its name says what the `u8` is.
 impl Refusal {
     pub fn number(self) -> u8
         ensures { result ≡ number_of self }

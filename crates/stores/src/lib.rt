@@ -1,4 +1,6 @@
 // Runs of bytes in lent stores, carried over from what the Rust's protocol/frame/mod.rs does with its buffers.
+// Kept: a store and the place in it are two parameters, here and where frames are laid, and the room is asked for: a frame's parts are laid one
+// behind the other over one store, and what is promised is its whole content.
 #![tactic(auto, using(crate::proofs::Moves::moved_to_front))]
 
 ghost use Rattle.std.specs.Prelude.{◌≡◌, ◌+◌, ◌-◌, ◌≤◌, length};
@@ -29,7 +31,8 @@ pub fn put(mask: Option<[u8; 4]>, position: usize, piece: &[u8], store: &mut [u8
     }
 }
 
-// Takes the first n of the held bytes away and moves the rest to the front; every other byte stays.
+// Takes the first n of the held bytes away and moves the rest to the front; every other byte stays. Kept: a store and how much of it is held, and
+// no slice of these bytes: the promise is one of the whole store.
 pub fn to_front(store: &mut [u8], n: usize, held: usize)
     requires { (n ≤ held) × (held ≤ length store.old) }
     ensures { store.new ≡ laid store.old 0 (part n (held - n) store.old) }
