@@ -11,12 +11,13 @@ use borrow.Author.Tests.{le-leb, lt-leb, eq-eqb, ne_eqb, leb-true}
 use Rattle.base.specs.Bytes.{part}
 use Rattle.base.specs.Stores.{laid}
 use Rattle.base.specs.Table.{pick}
+use Rattle.base.specs.Tests.{both}
 use Rattle.base.proofs.Bytes.{length-to_big}
 use Rattle.base.proofs.Stores.{laid-append}
 use Rattle.coding.specs.declared.opcode.OpCode.{OpCode}
 use Rattle.coding.specs.Opcodes.{opcode_of}
 use Rattle.frame.specs.declared.header.FrameHeader.{FrameHeader}
-use Rattle.std.specs.Prelude.{None, Some}
+use Rattle.std.specs.Prelude.{None, Some, eqb, unwrap_or}
 use Rattle.frame.specs.Header.{bit, first_of, second_of, extra_bytes, length_of, size_by, missing, header_of, parsed, no_mask, mask_in, mask_given, length_code, length_bytes, flags, first_byte, second_byte, header_bytes, plain_size, header_size}
 use Rattle.frame.proofs.Lengths.{extra_written, Form, short, middle, long, form, bytes_short, bytes_middle, bytes_long, size_short, size_middle, size_long}
 
@@ -122,6 +123,17 @@ pub given-there : (h : List ℕ) → missing h ≡ 0 → (second_of (get_or h 1 
     → mask_given h ≡ Some (part (size_by (get_or h 1 0) - 4) 4 h)
 unfolding mask_given
 given-there h e f = rw (eq-eqb (missing h) 0 e, f, mask_there h e f)
+
+-- zeros where there is none
+pub mask_given_or : (h : List ℕ) → unwrap_or (mask_given h) no_mask ≡ mask_in h
+unfolding mask_given mask_in
+mask_given_or h = go (eqb (missing h) 0) (second_of (get_or h 1 0)).masked (part (size_by (get_or h 1 0) - 4) 4 h)
+  where
+    go : (whole has : Bool) (m : List ℕ)
+        → unwrap_or (pick (both whole has) (Some (pick whole (pick has m no_mask) no_mask)) None) no_mask ≡ pick whole (pick has m no_mask) no_mask
+    go true true m = refl
+    go true false m = refl
+    go false has m = refl
 
 -- ---- the size of what is written
 pub plain_size_lem : (n : ℕ) → plain_size n ≡ 2 + length (length_bytes n)
