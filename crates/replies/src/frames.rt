@@ -22,11 +22,17 @@ fn frame_header(client: bool, opcode: OpCode, length: usize) -> FrameHeader
     }
 }
 
-// Whether a frame with so long a payload fits into so much room. The sum is taken where it can't wrap.
-pub fn fits_in(client: bool, length: usize, room: usize) -> bool
-    ensures { result ≡ leb (header_size client length + length) room }
+// Whether a frame whose payload is `count` bytes and then `length` fits into so much room: none does whose payload is longer than a number
+// can say.
+pub fn fits_in(client: bool, count: usize, length: usize, room: usize) -> bool
+    ensures { result ≡ leb (header_size client (count + length) + (count + length)) room }
 {
-    length <= room && frame::header::header_size(client, length as u64) <= room - length
+    match count.checked_add(length) {
+        Some(total) => {
+            total <= room && frame::header::header_size(client, total as u64) <= room - total
+        }
+        None => false,
+    }
 }
 
 // A whole frame from place `at` on; its payload is `lead`, where a close has its code, and then the piece. Gives the place behind it. Kept: the

@@ -1,5 +1,5 @@
 // The waiting reply: how it is made, and how it moves to the output.
-ghost use Rattle.std.specs.Prelude.{◌≡◌, true, ◌+◌, ◌-◌, ◌≤◌, leb, length};
+ghost use Rattle.std.specs.Prelude.{◌≡◌, true, ◌+◌, ◌-◌, ◌≤◌, leb, length, take};
 ghost use Rattle.frame.specs.Header.{header_size};
 ghost use Rattle.session.specs.Range.{waits};
 ghost use Rattle.session.specs.Replies.{reply_of, with_pong, reply_code, is_close_reply, out, move_reply};
@@ -45,13 +45,20 @@ fn reply_code(waiting: Waiting) -> OpCode
     }
 }
 
+fn payload_of(reply: &Reply) -> &[u8]
+    requires { reply.now.length ≤ 125 }
+    ensures { (result.now ≡ take reply.now.length reply.now.payload) × (length result.now ≡ reply.now.length) }
+{
+    &reply.payload[..reply.length]
+}
+
 // Whether the waiting reply's frame fits behind the held bytes of an output store of this size.
 pub fn reply_fits(session: &Session, size: usize) -> bool
     requires { session.now.held ≤ size }
     ensures { result ≡ leb (header_size (is_client session.now.settings) session.now.reply.length + session.now.reply.length) (size - session.now.held) }
 {
     let client = session.settings.role == session::CLIENT;
-    crate::frames::fits_in(client, session.reply.length, size - session.held)
+    crate::frames::fits_in(client, 0, session.reply.length, size - session.held)
 }
 
 // The waiting reply moves behind the held bytes if it fits, and else waits on.
@@ -65,8 +72,8 @@ pub fn move_reply(session: &mut Session, mask: [u8; 4], output: &mut [u8])
         return;
     }
     let client = session.settings.role == session::CLIENT;
-    let payload = &session.reply.payload[..session.reply.length];
-    if crate::frames::fits_in(client, payload.len(), output.len() - session.held) {
+    let payload = payload_of(&session.reply);
+    if reply_fits(session, output.len()) {
         let opcode = reply_code(session.reply.waiting);
         session.held = crate::frames::put_frame(
             client,

@@ -40,8 +40,8 @@ fn send_frame(
 {
     sendable(session, bad, output)?;
     let client = session.settings.role == session::CLIENT;
-    let size = lead.len() + piece.len();
-    if !replies::frames::fits_in(client, size, output.len() - session.held) {
+    let room = output.len() - session.held;
+    if !replies::frames::fits_in(client, lead.len(), piece.len(), room) {
         return Err(Refusal::NoRoom);
     }
     let behind = replies::frames::put_frame(
