@@ -13,21 +13,19 @@ use session::{Incoming, Session};
 fn lacks_mask(session: &Session, header: FrameHeader) -> bool
     ensures { result ≡ both (is_server session.now.settings) (both (not header.masked) (not session.now.settings.unmasked)) }
 {
-    session.settings.role == session::SERVER && !header.masked && !session.settings.unmasked
+    session.is_server() && !header.masked && !session.settings.unmasked
 }
 
 fn comes_late(session: &Session) -> bool
     ensures { result ≡ both (is_client session.now.settings) (is_peer_closed session.now.state) }
 {
-    session.settings.role == session::CLIENT
-        && (session.state == session::CLOSED_BY_PEER
-            || session.state == session::CLOSE_ACKNOWLEDGED)
+    session.is_client() && session.is_peer_closed()
 }
 
 fn masks_to_client(session: &Session, header: FrameHeader) -> bool
     ensures { result ≡ both (is_client session.now.settings) header.masked }
 {
-    session.settings.role == session::CLIENT && header.masked
+    session.is_client() && header.masked
 }
 
 fn sets_reserved(header: FrameHeader) -> bool

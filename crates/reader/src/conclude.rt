@@ -4,7 +4,6 @@ ghost use Rattle.frame.specs.Close.{close_of};
 ghost use Rattle.reader.specs.Fit.{Shows};
 ghost use Rattle.session.specs.Calls.{turn, flagged};
 ghost use Rattle.session.specs.Replies.{concluded, code_allowed, shown_length, shown_control, ping_came, close_came, conclude};
-ghost use Rattle.session.specs.Session.{is_peer_closed};
 
 use frame::close::ClosePayload;
 use session::refusal::Refusal;
@@ -86,22 +85,15 @@ pub(crate) fn conclude(session: &mut Session, answer: Answer, control: &mut [u8]
     }
 }
 
-// Whether the peer has closed.
-pub(crate) fn is_peer_closed(state: u8) -> bool
-    ensures { result ≡ is_peer_closed state }
-{
-    matches!(state, session::CLOSED_BY_PEER | session::CLOSE_ACKNOWLEDGED)
-}
-
 // The end flag, once the bytes are taken and the event has left what it leaves: it ends a session that has no event to tell.
 #[tactic(auto, unfolding(session::specs::Calls::flagged))]
 pub(crate) fn flag(session: &mut Session, end: bool, answer: Answer) -> Answer
     ensures { (n : ℕ) (c : List ℕ) → turn result n session.new ≡ flagged end (concluded answer session.old c) n }
 {
-    if !end || !matches!(answer, Answer::More) {
+    if !end || !message::pump::is_more(answer) {
         return answer;
     }
-    let told = if is_peer_closed(session.state) {
+    let told = if session.is_peer_closed() {
         Answer::Closed
     } else {
         Answer::Refused(Refusal::NoHandshake.number())

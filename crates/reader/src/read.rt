@@ -30,7 +30,7 @@ fn is_stuck(session: &Session, size: usize) -> bool
     requires { session.now.held ≤ size }
     ensures { result ≡ both (is_server session.now.settings) (both (is_close_reply session.now.reply.waiting) (not (leb (header_size (is_client session.now.settings) session.now.reply.length + session.now.reply.length) (size - session.now.held)))) }
 {
-    session.settings.role == session::SERVER
+    session.is_server()
         && replies::reply::is_close(session.reply.waiting)
         && !replies::reply::reply_fits(session, size)
 }
@@ -71,7 +71,7 @@ fn readable(
 fn is_over(session: &Session) -> bool
     ensures { result ≡ both (is_server session.now.settings) (is_peer_closed session.now.state) }
 {
-    session.settings.role == session::SERVER && crate::conclude::is_peer_closed(session.state)
+    session.is_server() && session.is_peer_closed()
 }
 
 // What a call does once its reply has moved. A server whose peer has closed is done. Else bytes are taken up to one event, the event leaves

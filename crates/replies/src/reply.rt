@@ -57,8 +57,12 @@ pub fn reply_fits(session: &Session, size: usize) -> bool
     requires { session.now.held ≤ size }
     ensures { result ≡ leb (header_size (is_client session.now.settings) session.now.reply.length + session.now.reply.length) (size - session.now.held) }
 {
-    let client = session.settings.role == session::CLIENT;
-    crate::frames::fits_in(client, 0, session.reply.length, size - session.held)
+    crate::frames::fits_in(
+        session.is_client(),
+        0,
+        session.reply.length,
+        size - session.held,
+    )
 }
 
 // The waiting reply moves behind the held bytes if it fits, and else waits on.
@@ -71,7 +75,7 @@ pub fn move_reply(session: &mut Session, mask: [u8; 4], output: &mut [u8])
     if !session::range::waits(session.reply.waiting) {
         return;
     }
-    let client = session.settings.role == session::CLIENT;
+    let client = session.is_client();
     let payload = payload_of(&session.reply);
     if reply_fits(session, output.len()) {
         let opcode = reply_code(session.reply.waiting);

@@ -5,6 +5,12 @@ use Rattle.session.specs.declared.Handed.{Handed}
 use Rattle.session.specs.Calls.{Handed as Given, handed}
 use Rattle.session.specs.Refusals.{sent_of}
 use Rattle.session.proofs.Refusals.{numbered_one, sent_one}
+use Rattle.session.proofs.Session.is_client.Kinds as client-kinds
+use Rattle.session.proofs.Session.is_client.Reads as client-reads
+use Rattle.session.proofs.Session.is_server.Kinds as server-kinds
+use Rattle.session.proofs.Session.is_server.Reads as server-reads
+use Rattle.session.proofs.Session.is_peer_closed.Kinds as closed-kinds
+use Rattle.session.proofs.Session.is_peer_closed.Reads as closed-reads
 use Rattle.session.proofs.new.new.Kinds as new-kinds
 use Rattle.session.proofs.new.new.Reads as new-reads
 use Rattle.session.proofs.new.U8FromRole.from.Kinds as role-kinds
@@ -30,6 +36,15 @@ handed_one h h' e =
 
 pub new_one : OneAnswer 0 new-kinds.ps new-kinds.r new-reads.Post
 new_one κs a r r' e e' p q = handed_one r r' (p ∙ sym q)
+
+pub is_client_one : OneAnswer 1 client-kinds.ps client-kinds.r client-reads.Post
+is_client_one κs a r r' e e' p q = p ∙ sym q
+
+pub is_server_one : OneAnswer 1 server-kinds.ps server-kinds.r server-reads.Post
+is_server_one κs a r r' e e' p q = p ∙ sym q
+
+pub is_peer_closed_one : OneAnswer 1 closed-kinds.ps closed-kinds.r closed-reads.Post
+is_peer_closed_one κs a r r' e e' p q = p ∙ sym q
 
 pub role_number_one : OneAnswer 0 role-kinds.ps role-kinds.r role-reads.Post
 role_number_one κs a r r' e e' p q = p ∙ sym q

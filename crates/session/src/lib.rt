@@ -2,6 +2,9 @@
 // range. What each call does is defined in specs/; the calls themselves are in the crates above.
 #![tactic(auto)]
 
+ghost use Rattle.std.specs.Prelude.{◌≡◌};
+ghost use Rattle.session.specs.Session.{is_client, is_server, is_peer_closed};
+
 pub mod new;
 pub mod range;
 pub mod refusal;
@@ -88,6 +91,28 @@ pub struct Session {
     pub reply: Reply,
     // bytes held in the output store
     pub held: usize,
+}
+
+// A role or a state whose number names none is none of these.
+impl Session {
+    pub fn is_client(&self) -> bool
+        ensures { result ≡ is_client self.now.settings }
+    {
+        self.settings.role == CLIENT
+    }
+
+    pub fn is_server(&self) -> bool
+        ensures { result ≡ is_server self.now.settings }
+    {
+        self.settings.role == SERVER
+    }
+
+    // Whether a close of the peer has come.
+    pub fn is_peer_closed(&self) -> bool
+        ensures { result ≡ is_peer_closed self.now.state }
+    {
+        matches!(self.state, CLOSED_BY_PEER | CLOSE_ACKNOWLEDGED)
+    }
 }
 
 // An answer of the reader. Kept: a refusal has its number (document 01, "Where each language form goes").

@@ -39,7 +39,7 @@ fn send_frame(
     ensures { sending (sent_of result) session.new output.new ≡ send_frame session.old state opcode bad (lead.now ++ piece.now) masks output.old }
 {
     sendable(session, bad, output)?;
-    let client = session.settings.role == session::CLIENT;
+    let client = session.is_client();
     let room = output.len() - session.held;
     if !replies::frames::fits_in(client, lead.len(), piece.len(), room) {
         return Err(Refusal::NoRoom);

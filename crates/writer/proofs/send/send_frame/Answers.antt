@@ -7,7 +7,6 @@ use Rattle.base.specs.Tests.{first_of}
 use Rattle.session.specs.Calls.{sending, send_frame}
 use Rattle.session.specs.Refusals.{Done}
 use Rattle.session.specs.Replies.{Out, appended}
-use Rattle.session.specs.Session.{is_client}
 use Rattle.replies.proofs.Encoding.{fits-within, fits_parts}
 use Rattle.writer.proofs.Numbers.{Clear, clear}
 use Rattle.writer.proofs.send.send_frame.Goals as goal
@@ -18,7 +17,8 @@ returns-then-not-fits_in c =
     let four : length c.args.masks.first ≡ 4 = search rules in
     rw (
       sym c.in_ok-sendable.ensures,
-      fits_parts _ c.args.output.now _ c.args.opcode c.args.masks.first c.args.lead.now c.args.piece.now four
+      sym c.is_client-client.ensures,
+      fits_parts _ c.args.output.now c.is_client-client.result c.args.opcode c.args.masks.first c.args.lead.now c.args.piece.now four
           ∙ sym c.fits_in.ensures
           ∙ c.if-not-fits_in.true,
     )
@@ -31,7 +31,7 @@ move_reply-requires-clause-held_within c =
     let four : length c.args.masks.first ≡ 4 = search rules in
     let clean : Clear c.args.session.now c.args.output.now c.args.bad = clear _ _ _ c.in_ok-sendable.ensures in
     let fitting =
-    fits_parts c.args.session.now.held c.args.output.now (is_client c.args.session.now.settings) c.args.opcode c.args.masks.first
+    fits_parts c.args.session.now.held c.args.output.now c.is_client-client.result c.args.opcode c.args.masks.first
     c.args.lead.now c.args.piece.now four
     ∙ sym c.fits_in.ensures
     ∙ c.if-not-fits_in.false in
@@ -43,7 +43,8 @@ returns c =
     let four : length c.args.masks.first ≡ 4 = search rules in
     rw (
       sym c.in_ok-sendable.ensures,
-      fits_parts c.args.session.now.held c.args.output.now (is_client c.args.session.now.settings) c.args.opcode c.args.masks.first
+      sym c.is_client-client.ensures,
+      fits_parts c.args.session.now.held c.args.output.now c.is_client-client.result c.args.opcode c.args.masks.first
           c.args.lead.now c.args.piece.now four
           ∙ sym c.fits_in.ensures
           ∙ c.if-not-fits_in.false,
