@@ -190,7 +190,7 @@ fn understood(words: &[&[u8]], room: &mut [u8]) -> Option<Line> {
 impl Line {
     // A line, without its line feed.
     pub(crate) fn of(line: &[u8], room: &mut [u8]) -> Option<Line> {
-        if script::words::byte(line, 0) == b'#' {
+        if line.first() == Some(&b'#') {
             return Some(Line::Passed);
         }
         let words: [&[u8]; 5] = array::from_fn(|k| script::words::word(line, k));

@@ -12,7 +12,7 @@ mod state;
 mod told;
 
 use crate::state::State;
-use input::Window;
+use input::{Next, Window};
 use script::answers::Text;
 use std::io;
 use std::ops::ControlFlow;
@@ -26,16 +26,8 @@ struct Script {
     // the window on the bytes that were read and are not used yet: the longest line, its line feed, and room to read behind them
     bytes: [u8; 327680],
     window: Window,
-    // the number of the line under way
-    line: u64,
-}
-
-// What a turn is about: a line, without its line feed; one that is too long; more of the script, which is wanted; or its end.
-enum Next<'a> {
-    Line(&'a [u8]),
-    Long,
-    More,
-    End,
+    // how many lines are behind it
+    lines: u64,
 }
 
 impl Script {
@@ -43,28 +35,23 @@ impl Script {
         Script {
             bytes: [0; 327680],
             window: input::none(),
-            line: 0,
+            lines: 0,
         }
     }
 
-    fn next(&mut self) -> Next<'_> {
-        let window = self.window;
-        let shown = window.shown(&self.bytes);
-        let n = script::words::find(shown, b'\n').unwrap_or(shown.len());
-        if n <= LONGEST && n == shown.len() {
-            if !window.ended {
-                return Next::More;
-            }
-            if n == 0 {
-                return Next::End;
-            }
-        }
-        self.window = window.used(input::sum(n, 1));
-        self.line = self.line.wrapping_add(1);
-        if LONGEST < n {
-            return Next::Long;
-        }
-        Next::Line(input::front(shown, n))
+    fn next(&self) -> Next {
+        self.window.next_line(&self.bytes, LONGEST)
+    }
+
+    // The line under way, of n bytes.
+    fn line(&self, n: usize) -> &[u8] {
+        input::front(self.window.shown(&self.bytes), n)
+    }
+
+    // Goes on behind a line of n bytes and its line feed.
+    fn pass(&mut self, n: usize) {
+        self.window = self.window.used(input::sum(n, 1));
+        self.lines = self.lines.wrapping_add(1);
     }
 }
 
@@ -105,14 +92,15 @@ impl Run {
             script.window = window;
             return Ok(ControlFlow::Continue(()));
         }
-        script.line = script.line.wrapping_add(1);
         // where that can't be said, the answer still is that the line is bad
         let _ = rt.eprintln("drive: the script can't be read");
         Ok(self.bad(text))
     }
 
+    // The line under way is bad, which ends the run.
     fn bad(&self, text: &mut Text<'_>) -> ControlFlow<()> {
-        told::counted(text, b"bad line", self.script.line);
+        let line = self.script.lines.wrapping_add(1);
+        told::counted(text, b"bad line", line);
         text.put(b"\n");
         ControlFlow::Break(())
     }
@@ -127,11 +115,12 @@ impl Run {
             return Ok(ControlFlow::Continue(()));
         }
         match self.script.next() {
-            Next::Line(line) => {
-                if self.state.line(line, text).is_some() {
-                    return Ok(ControlFlow::Continue(()));
+            Next::Line(n) => {
+                if self.state.line(self.script.line(n), text).is_none() {
+                    return Ok(self.bad(text));
                 }
-                Ok(self.bad(text))
+                self.script.pass(n);
+                Ok(ControlFlow::Continue(()))
             }
             Next::Long => Ok(self.bad(text)),
             Next::More => self.more(rt, text),

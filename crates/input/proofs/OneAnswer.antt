@@ -5,6 +5,8 @@ use Rattle.input.proofs.front.Kinds as front
 use Rattle.input.proofs.front.Reads as front_reads
 use Rattle.input.proofs.none.Kinds as none
 use Rattle.input.proofs.none.Reads as none_reads
+use Rattle.input.proofs.Window.next_line.Kinds as next_line
+use Rattle.input.proofs.Window.next_line.Reads as next_line_reads
 use Rattle.input.proofs.Window.shown.Kinds as shown
 use Rattle.input.proofs.Window.shown.Reads as shown-reads
 use Rattle.input.proofs.sum.Kinds as sum
@@ -20,6 +22,9 @@ sum_one κs a z z' e e' p q = p ∙ sym q
 
 pub used_one : OneAnswer 0 used.ps used.r used-reads.Post
 used_one κs a z z' e e' p q = p ∙ sym q
+
+pub next_line_one : OneAnswer 1 next_line.ps next_line.r next_line_reads.Post
+next_line_one κs a z z' e e' p q = p ∙ sym q
 
 pub front_one : OnePart 1 front.ps front.r (λ κs z. (z.now, z.ref_ptr)) front_reads.Post
 front_one κs a z z' e e' p q = λ i. ((p.0 ∙ sym q.0) i, (p.1 ∙ sym q.1) i)

@@ -1,8 +1,10 @@
 -- A window on standard input: the bytes of a lent array from one place to another, which were read and are not used yet.
-use Rattle.std.specs.Prelude.{false, List, [], ℕ, ◌+◌, ◌-◌, leb, length}
+use Rattle.std.specs.Prelude.{◌==◌, Bool, false, Option, Some, None, List, [], ℕ, ◌+◌, ◌-◌, leb, eqb, length, position}
 use Rattle.base.specs.Bytes.{part}
 use Rattle.base.specs.Table.{pick}
 use Rattle.base.specs.Tests.{both}
+use Rattle.input.specs.declared.Next.{Next}
+use Rattle.input.specs.declared.Next.TheVariants.{Line, Long, More, End}
 use Rattle.input.specs.declared.Window.{Window}
 
 -- nothing is read yet
@@ -20,3 +22,20 @@ shown_of bytes w = pick (both (leb w.from w.to) (leb w.to (length bytes))) (part
 -- the first n are used
 abbrev pub used_of : Window → ℕ → Window
 used_of w n = record { from = sum_of w.from n; to = w.to; ended = w.ended }
+
+-- n bytes without a line feed: a line where the input ends behind them, unless there are none
+abbrev pub unfinished : Bool → ℕ → Next
+unfinished ended n = pick ended (pick (eqb n 0) End (Line n)) More
+
+-- a line ends before the first line feed, if there is one, and has so many bytes at the most
+abbrev pub line_in : Option ℕ → ℕ → Bool → ℕ → Next
+line_in (Some n) given ended longest = pick (leb n longest) (Line n) Long
+line_in None given ended longest = pick (leb given longest) (unfinished ended given) Long
+
+-- the place of the first line feed, which is the byte 10
+abbrev pub line_feed_in : List ℕ → Option ℕ
+line_feed_in bytes = position (λ b. b == 10) bytes
+
+-- what the window's bytes begin with
+abbrev pub next_of : List ℕ → Window → ℕ → Next
+next_of bytes w longest = line_in (line_feed_in (shown_of bytes w)) (length (shown_of bytes w)) w.ended longest

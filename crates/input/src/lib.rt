@@ -3,7 +3,7 @@
 #![tactic(auto)]
 
 ghost use Rattle.std.specs.Prelude.{◌≡◌, ◌≤◌, length, take};
-ghost use Rattle.input.specs.Window.{no_window, sum_of, shown_of, used_of};
+ghost use Rattle.input.specs.Window.{no_window, sum_of, shown_of, used_of, next_of, line_feed_in};
 
 use std::io;
 use std::io::Read;
@@ -17,6 +17,19 @@ pub struct Window {
     pub to: usize,
     // the input ends behind them
     pub ended: bool,
+}
+
+// What the bytes of a window begin with.
+#[derive(Clone, Copy)]
+pub enum Next {
+    // a line of so many bytes, without its line feed
+    Line(usize),
+    // one that is too long
+    Long,
+    // one that is not whole yet
+    More,
+    // nothing: the input is over
+    End,
 }
 
 pub fn none() -> Window
@@ -48,6 +61,12 @@ pub fn sum(a: usize, b: usize) -> usize
     }
 }
 
+fn line_feed(bytes: &[u8]) -> Option<usize>
+    ensures { result ≡ line_feed_in bytes.now }
+{
+    bytes.iter().position(|b| *b == b'\n')
+}
+
 impl Window {
     pub fn shown(self, bytes: &[u8]) -> &[u8]
         ensures { result.now ≡ shown_of bytes.now self }
@@ -61,6 +80,21 @@ impl Window {
         Window {
             from: sum(self.from, n),
             ..self
+        }
+    }
+
+    // The line that the window's bytes begin with. At the input's end a line may lack its line feed.
+    pub fn next_line(self, bytes: &[u8], longest: usize) -> Next
+        ensures { result ≡ next_of bytes.now self longest }
+    {
+        let shown = self.shown(bytes);
+        match line_feed(shown) {
+            Some(n) if longest < n => Next::Long,
+            Some(n) => Next::Line(n),
+            None if longest < shown.len() => Next::Long,
+            None if !self.ended => Next::More,
+            None if shown.is_empty() => Next::End,
+            None => Next::Line(shown.len()),
         }
     }
 

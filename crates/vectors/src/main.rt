@@ -12,7 +12,7 @@ mod stored;
 mod told;
 mod utf;
 
-use input::Window;
+use input::{Next, Window};
 use script::answers::Text;
 use std::io;
 
@@ -121,36 +121,6 @@ fn record(line: &[u8], args: &mut Args, text: &mut Text<'_>) -> Option<()> {
     Some(())
 }
 
-// What the bytes that are there begin with.
-enum Next {
-    // a line of so many bytes
-    Line(usize),
-    // one that is not whole yet
-    More,
-    // one that is too long
-    TooLong,
-    // the input's end
-    Over,
-}
-
-impl Next {
-    fn of(shown: &[u8], ended: bool) -> Next {
-        match script::words::find(shown, b'\n') {
-            Some(n) if n <= LONGEST => Next::Line(n),
-            None if shown.len() <= LONGEST => {
-                if !ended {
-                    Next::More
-                } else if shown.is_empty() {
-                    Next::Over
-                } else {
-                    Next::Line(shown.len())
-                }
-            }
-            _ => Next::TooLong,
-        }
-    }
-}
-
 // Writes what is answered so far. Kept: here and in `drive`, see there.
 fn write_out(rt: &impl Print, text: &mut Text<'_>) -> io::Result<()> {
     let at = text.at;
@@ -183,12 +153,11 @@ fn turn(
     args: &mut Args,
     text: &mut Text<'_>,
 ) -> io::Result<Option<Window>> {
-    let shown = window.shown(bytes);
-    let answered = match Next::of(shown, window.ended) {
-        Next::Line(n) => record(input::front(shown, n), args, text).map(|()| n),
+    let answered = match window.next_line(bytes, LONGEST) {
+        Next::Line(n) => record(input::front(window.shown(bytes), n), args, text).map(|()| n),
         Next::More => return Ok(Some(more(rt, window, bytes, text)?)),
-        Next::TooLong => None,
-        Next::Over => return Ok(None),
+        Next::Long => None,
+        Next::End => return Ok(None),
     };
     match answered {
         Some(n) => Ok(Some(window.used(input::sum(n, 1)))),
@@ -199,8 +168,8 @@ fn turn(
     }
 }
 
-// A proved loop has to end, and nothing says that the input does. So the loop counts its turns, up to a number that no run uses up. The
-// answers are written out once they fill half their room, which leaves more than a record's lines take.
+// The answers are written out once they fill half their room, which leaves more than a record's lines take.
+// Kept: the loop counts its turns, up to a number that no run uses up, since a proved loop has to end and nothing says that the input does.
 fn run(
     rt: &(impl Input + Print),
     bytes: &mut Bytes,
