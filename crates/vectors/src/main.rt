@@ -12,9 +12,10 @@ mod stored;
 mod told;
 mod utf;
 
+use crate::told::Store;
 use input::{Next, Window};
 use script::answers::Text;
-use std::io;
+use std::{array, io};
 
 // The input's bytes that were read and not used yet, and those of a record's argument.
 type Bytes = [u8; 65536];
@@ -24,7 +25,8 @@ type Args = [u8; 255];
 // The longest line, without its line feed.
 const LONGEST: usize = 1024;
 
-#[derive(Clone, Copy, PartialEq, Eq)]
+// The records whose argument is HEX, by their words.
+#[derive(Clone, Copy)]
 enum Kind {
     Opcode,
     Header,
@@ -35,8 +37,6 @@ enum Kind {
     Step,
     Close,
     Code,
-    Violation,
-    Codes,
 }
 
 impl Kind {
@@ -51,72 +51,90 @@ impl Kind {
             b"step" => Some(Kind::Step),
             b"close" => Some(Kind::Close),
             b"code" => Some(Kind::Code),
-            b"violation" => Some(Kind::Violation),
-            b"codes" => Some(Kind::Codes),
             _ => None,
+        }
+    }
+
+    // Whether there is a record of this kind with so many bytes.
+    fn may_have(self, n: u64) -> bool {
+        match self {
+            Kind::Opcode => n == 1,
+            Kind::Header | Kind::Close => true,
+            Kind::Write => n == 14,
+            Kind::Mask => 13 <= n,
+            Kind::Copy | Kind::Utf8 => 1 <= n,
+            Kind::Step | Kind::Code => n == 2,
+        }
+    }
+
+    // What such a record answers behind itself.
+    fn answer(self, args: &[u8], store: &mut Store, text: &mut Text<'_>) {
+        match self {
+            Kind::Opcode => headers::opcode(args, text),
+            Kind::Header => headers::read(args, text),
+            Kind::Write => headers::write(args, store, text),
+            Kind::Mask => stored::mask(args, store, text),
+            Kind::Copy => stored::copy(args, store, text),
+            Kind::Utf8 => utf::scan(args, text),
+            Kind::Step => utf::step(args, text),
+            Kind::Close => closes::payload(args, text),
+            Kind::Code => closes::code(args, text),
         }
     }
 }
 
-// The argument of a record: a number, or how many bytes it has.
-fn argument(kind: Kind, word: &[u8], args: &mut Args) -> Option<u64> {
-    match kind {
-        Kind::Violation => script::values::decimal(word),
-        Kind::Codes => Some(0),
-        _ => script::values::hex(word, args),
-    }
+// A record that is understood.
+#[derive(Clone, Copy)]
+enum Record {
+    Codes,
+    Violation(usize),
+    // so many bytes, which are at the front of the room for them
+    Bytes(Kind, usize),
 }
 
-// Whether there is a record of this kind with such an argument.
-fn may_have(kind: Kind, n: u64) -> bool {
-    match kind {
-        Kind::Opcode => n == 1,
-        Kind::Header | Kind::Close | Kind::Codes => true,
-        Kind::Write => n == 14,
-        Kind::Mask => 13 <= n,
-        Kind::Copy | Kind::Utf8 => 1 <= n,
-        Kind::Step | Kind::Code => n == 2,
-        Kind::Violation => n < 256,
+impl Record {
+    fn violation(word: &[u8]) -> Option<Record> {
+        let n = script::values::decimal(word)?;
+        (n < 256).then_some(Record::Violation(n as usize))
     }
-}
 
-// What a record answers behind itself. Its store is filled with the byte ee.
-fn answer(kind: Kind, n: usize, args: &[u8], text: &mut Text<'_>) {
-    let mut store = [0xee; 64];
-    match kind {
-        Kind::Opcode => headers::opcode(args, text),
-        Kind::Header => headers::read(args, text),
-        Kind::Write => headers::write(args, &mut store, text),
-        Kind::Mask => stored::mask(args, &mut store, text),
-        Kind::Copy => stored::copy(args, &mut store, text),
-        Kind::Utf8 => utf::scan(args, text),
-        Kind::Step => utf::step(args, text),
-        Kind::Close => closes::payload(args, text),
-        Kind::Code => closes::code(args, text),
-        Kind::Violation => stored::violation(n, &mut store, text),
-        Kind::Codes => {}
+    fn bytes(word: &[u8], hex: &[u8], args: &mut Args) -> Option<Record> {
+        let kind = Kind::of(word)?;
+        let n = script::values::hex(hex, args)?;
+        kind.may_have(n).then_some(Record::Bytes(kind, n as usize))
     }
-}
 
-// The lines of a record, without the end of the last.
-fn lines(kind: Kind, n: usize, line: &[u8], args: &[u8], text: &mut Text<'_>) {
-    if kind == Kind::Codes {
-        codes::runs(text);
-    } else {
-        text.put(line);
-        answer(kind, n, input::front(args, n), text);
+    fn of(line: &[u8], args: &mut Args) -> Option<Record> {
+        let words: [&[u8]; 2] = array::from_fn(|k| script::words::word(line, k));
+        match words.get(..script::words::count(line))? {
+            [b"codes"] => Some(Record::Codes),
+            [b"violation", n] => Record::violation(n),
+            [word, hex] => Record::bytes(word, hex, args),
+            _ => None,
+        }
+    }
+
+    // The lines of a record, without the end of the last. The store that it lays bytes over is filled with the byte ee.
+    fn lines(self, line: &[u8], args: &[u8], text: &mut Text<'_>) {
+        let mut store = [0xee; 64];
+        match self {
+            Record::Codes => codes::runs(text),
+            Record::Violation(n) => {
+                text.put(line);
+                stored::violation(n, &mut store, text);
+            }
+            Record::Bytes(kind, n) => {
+                text.put(line);
+                kind.answer(input::front(args, n), &mut store, text);
+            }
+        }
     }
 }
 
 // Answers a line; None, and nothing is said, where it is no record.
-fn record(line: &[u8], args: &mut Args, text: &mut Text<'_>) -> Option<()> {
-    let kind = Kind::of(script::words::word(line, 0))?;
-    let n = argument(kind, script::words::word(line, 1), args)?;
-    let words = if kind == Kind::Codes { 1 } else { 2 };
-    if !may_have(kind, n) || script::words::count(line) != words {
-        return None;
-    }
-    lines(kind, n as usize, line, args, text);
+fn answer(line: &[u8], args: &mut Args, text: &mut Text<'_>) -> Option<()> {
+    let record = Record::of(line, args)?;
+    record.lines(line, args, text);
     text.put(b"\n");
     Some(())
 }
@@ -154,7 +172,7 @@ fn turn(
     text: &mut Text<'_>,
 ) -> io::Result<Option<Window>> {
     let answered = match window.next_line(bytes, LONGEST) {
-        Next::Line(n) => record(input::front(window.shown(bytes), n), args, text).map(|()| n),
+        Next::Line(n) => answer(input::front(window.shown(bytes), n), args, text).map(|()| n),
         Next::More => return Ok(Some(more(rt, window, bytes, text)?)),
         Next::Long => None,
         Next::End => return Ok(None),
