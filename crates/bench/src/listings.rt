@@ -2,7 +2,9 @@
 use capture::step::Came;
 
 // Lists a capture into a store, which is filled again from its front whenever it is full, as `replay` hands its lines over. Gives the bytes of
-// the listing. All bytes of the capture are there, so a step that lacks some would be the last. No capture uses up so many steps.
+// the listing. All bytes of the capture are there, so a step that lacks some would be the last.
+// Kept: the loop counts its steps, up to a number that no capture uses up, since a proved loop has to end and nothing here says that the
+// steps do.
 pub fn bench_list(bytes: &[u8], out: &mut [u8]) -> u64 {
     let mut message = [0u8; 32768];
     let mut control = [0u8; 125];

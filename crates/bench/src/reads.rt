@@ -72,7 +72,7 @@ fn read_all(
 }
 
 // Reads a stream in pieces of `size` bytes, in a session of its own. Gives the bytes that its events showed, and counts the events.
-// Kept: the role as a flag and the count by reference, since C calls it.
+// Kept: the role as a flag and the count by reference, which is what C hands on.
 pub fn bench_read_shared(
     client: bool,
     stream: &[u8],

@@ -40,6 +40,7 @@ fn send_all<F: Fn(Session, &[u8], Masks, &mut [u8]) -> Handed>(
 }
 
 // Sends binary messages.
+// Kept: here and in `bench_text`, the role as a flag, which is what C hands on.
 pub fn bench_binary_shared(
     client: bool,
     payloads: &[u8],

@@ -18,7 +18,8 @@ struct Run {
     message: [u8; 32768],
     control: [u8; 125],
     output: [u8; 131],
-    // the lines so far, which are written in large blocks, and the place behind them. The longest line has room in it twice
+    // the lines so far, which are written in large blocks, and the place behind them. The longest line has room in it twice.
+    // Kept: the two stand side by side, since a step of `capture` lays its line at a place of a store
     lines: [u8; 131200],
     at: usize,
 }

@@ -10,6 +10,7 @@ pub fn find(all: &[u8], byte: u8) -> Option<usize>
 }
 
 // A byte, 0 behind the end.
+// Kept: no Option, since its promise is the byte or 0, and vectors' records have all the bytes that are asked for.
 pub fn byte(all: &[u8], i: usize) -> u8
     ensures { result ≡ get_or all.now i 0 }
 {
@@ -31,6 +32,7 @@ pub fn count(line: &[u8]) -> usize
 }
 
 // The k-th word, from 0, and no byte where there are fewer.
+// Kept: no Option, since its promise is the word or no byte; how many words there are is asked of `count`.
 pub fn word(line: &[u8], k: usize) -> &[u8]
     ensures { result.now ≡ get_or (words_of line.now) k [] }
 {
