@@ -97,6 +97,11 @@ pub be_eight : (n : ℕ) → to_be_bytes w64 n ≡ to_big 8 n
 unfolding to_big
 be_eight n = simp div-one
 
+-- the two low bytes of eight
+pub low_two : (n : ℕ) → take 2 (drop 6 (to_big 8 n)) ≡ to_big 2 n
+unfolding to_big
+low_two n = refl
+
 -- ---- what is written reads back
 pub code_most : (n : ℕ) → length_code n < 128
 code_most n = go (form n)

@@ -7,7 +7,7 @@ use native.Mathlib.Omega.{arith}
 use borrow.Author.Tests.{lt-ltb, le-ltb, ne_eqb}
 use lib.Dec.{ltb, eqb}
 use lib.ListN.{length, get_or, take, length-append, length-take}
-use lib.Seq.{take-suc}
+use lib.Seq.{take-suc, take_all}
 use Rattle.base.specs.Stores.{laid}
 use Rattle.base.proofs.Choice.{by_test}
 use Rattle.base.proofs.Stores.{laid-append}
@@ -81,6 +81,10 @@ hex-more d at s j {high} {low} {e} {f} {g} {k} {m} {n} h p r q u v =
     let all : hex (take j s) ++ two ≡ hex (take (j + 1) s) =
     sym (ap hex (ap (λ (i : ℕ). take i s) (add-one j) ∙ take-suc s j 0 h) ∙ hex-snoc (take j s) (get_or s j 0)) in
     subst (λ (t : List ℕ). Wrote d at t g n) all (wrote_on d at (hex (take j s)) two q both)
+
+pub hex-all : (d : List ℕ) (at : ℕ) (s : List ℕ) (j : ℕ) {e : List ℕ} → length s ≤ j → j ≤ length s → e ≡ laid d at (hex (take j s))
+    → Wrote d at (hex s) e (at + j + j)
+hex-all d at s j h k q = (omega (arith, length-hex s), q ∙ ap (λ (l : List ℕ). laid d at (hex l)) (take_all j s h))
 
 -- ---- how long a text is
 pub length-hex_take : (s : List ℕ) (j : ℕ) → length (hex (take j s)) ≤ j + j

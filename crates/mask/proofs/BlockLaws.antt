@@ -3,20 +3,31 @@ use mathlib.Core.Path.{◌≡◌, refl, sym, ap, ap₂, ◌∙◌}
 use mathlib.Core.List.{List, [], ◌∷◌, ◌++◌}
 use Prim.Native.Nat.{ℕ, zero, suc, ◌+◌, ◌-◌, ◌*◌, ◌/◌, ◌%◌, ◌<◌, ◌≤◌}
 use native.Mathlib.Nat.{add-zero, zero-add, add-suc}
+use native.Mathlib.Numerals.{add-one}
 use native.Mathlib.Omega.{arith}
 use lib.Bits.{bit_xor}
-use lib.ListN.{length, get_or, take, drop, length-drop}
-use lib.Seq.{take-add, take_all, length-take-le, ext_get_or, drop-drop}
+use lib.ListN.{length, get_or, set, take, drop, length-drop}
+use lib.Seq.{take-add, take_all, take-suc-set, length-take-le, ext_get_or, drop-drop}
 use Rattle.std.specs.Simd.{first_chunks}
 use Rattle.base.specs.Bytes.{part}
 use Rattle.base.specs.Stores.{laid}
-use Rattle.base.proofs.Bytes.{length_part}
+use Rattle.base.proofs.Bytes.{length_part, part-more}
 use Rattle.base.proofs.Stores.{laid-append}
 use Rattle.mask.specs.Blocks.{key_at, xored, in_blocks}
 use Rattle.mask.specs.Mask.{masked}
 use Rattle.mask.proofs.Laws.{length-masked, masked-at, masked-append}
 
 -- ---- a block is read, and a run is written
+
+-- a byte more of a run that is copied into an array
+pub built_more : (s b : List ℕ) (from i : ℕ) → i < length b → from + i < length s → take i b ≡ part from i s
+    → take (i + 1) (set b i (get_or s (from + i) 0)) ≡ part from (i + 1) s
+built_more s b from i h k p =
+    rw (add-one, take-suc-set b i (get_or s (from + i) 0) h, p) (sym (part-more from i s k) ∙ rw add-one)
+
+-- and all of it
+pub built_all : (s b : List ℕ) (from i n : ℕ) → length b ≡ n → i ≡ n → take i b ≡ part from i s → b ≡ part from n s
+built_all s b from i n h k p = sym (take_all n b (omega arith)) ∙ rw k at p
 
 chunk_at : (n i : ℕ) (s : List ℕ) → i < n → get_or (first_chunks 8 n s) i [] ≡ part (8 * i) 8 s
 unfolding part

@@ -1,3 +1,4 @@
+pub mod Xor
 pub mod Laws
 pub mod BlockLaws
 pub mod OneAnswer

@@ -52,7 +52,7 @@ kind_tests g f i op =
     ∷ []
 
 module _ (g : Settings) (state : ℕ) (f : FrameHeader) (i : Incoming) where
-  doom-any : (first_of (any_tests g state f) ≡ 0 → ⊥) → doom g state f i ≡ first_of (any_tests g state f)
+  pub doom-any : (first_of (any_tests g state f) ≡ 0 → ⊥) → doom g state f i ≡ first_of (any_tests g state f)
   unfolding doom doom_tests
   doom-any h = first_stop (any_tests g state f) (kind_tests g f i f.opcode) h
 

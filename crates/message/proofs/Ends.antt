@@ -65,7 +65,7 @@ close_no_text f i e = go f.opcode e
     go (Control k) e = refl
 
 module _ (g : Settings) (state : ℕ) (f : FrameHeader) (i : Incoming) (control : List ℕ) where
-  verdict-doomed : (doom g state f i ≡ 0 → ⊥) → doom g state f i ≡ verdict g state f i control
+  pub verdict-doomed : (doom g state f i ≡ 0 → ⊥) → doom g state f i ≡ verdict g state f i control
   unfolding verdict doom
   verdict-doomed h = sym (first_stop (doom_tests g state f i) (utf_test f i control ∷ []) h)
 
@@ -93,6 +93,26 @@ module _ (g : Settings) (state : ℕ) (f : FrameHeader) (i : Incoming) (control 
         go true = refl
         go false = refl
 
+    pub verdict-close : is_close f.opcode ≡ true → {b : Bool} → reason_holds (take f.length control) ≡ b → ◌≡◌ {A = ℕ} (pick b 0 12) (verdict g state f i control)
+    unfolding first_of utf_test
+    verdict-close e {b} r = sym (verdict-clear clear ∙ rw (e, r, close_no_text f i e) (go b))
+      where
+        go : (b : Bool) → ◌≡◌ {A = ℕ} (pick (either (not b) false) 12 0) (pick b 0 12)
+        go true = refl
+        go false = refl
+
+    pub verdict-text : is_close f.opcode ≡ false → is_text f i ≡ true → {b : Bool} → text_holds f i ≡ b → ◌≡◌ {A = ℕ} (pick b 0 12) (verdict g state f i control)
+    unfolding first_of utf_test
+    verdict-text e t {b} r = sym (verdict-clear clear ∙ rw (e, t, r) (go b))
+      where
+        go : (b : Bool) → ◌≡◌ {A = ℕ} (pick (not b) 12 0) (pick b 0 12)
+        go true = refl
+        go false = refl
+
+    pub verdict-other : is_close f.opcode ≡ false → is_text f i ≡ false → 0 ≡ verdict g state f i control
+    unfolding first_of utf_test
+    verdict-other e t = sym (verdict-clear clear ∙ rw (e, t))
+
 -- ---- what the end leaves
 module _ (f : FrameHeader) (i : Incoming) (m c : List ℕ) where
   pub ended-reserved : (n : ℕ) → f.opcode ≡ Reserved n → world i m c More ≡ ended f f.opcode (world i m c More)
@@ -116,13 +136,14 @@ module _ (f : FrameHeader) (i : Incoming) (m c : List ℕ) where
       ∙ ap (λ (op : OpCode). ended f op (world i m c More)) (sym e)
 
 module _ (g : Settings) (state : ℕ) (i : Incoming) (m c : List ℕ) (f : FrameHeader) (kept-one : f ≡ frame i) where
-  pub finish-refused : (e : Refusal) {n : ℕ} → number_of e ≡ verdict g state f i c → n ≡ number_of e → world i m c (Refused n) ≡ finish g state (world i m c More)
+  pub finish-refused : {n : ℕ} → n ≡ verdict g state f i c → (n ≡ 0 → ⊥) → world i m c (Refused n) ≡ finish g state (world i m c More)
   unfolding finish refuse
-  finish-refused r {n} p q =
-      let e : n ≡ verdict g state f i c = q ∙ p in
-      let h : n ≡ 0 → ⊥ = λ z. number_some r (sym q ∙ z) in
+  finish-refused {n} e h =
       let same : n ≡ verdict g state (frame i) i c = e ∙ ap (λ (x : FrameHeader). verdict g state x i c) kept-one in
       rw (ne_eqb (verdict g state (frame i) i c) 0 (λ z. h (same ∙ z))) (ap (λ (x : ℕ). world i m c (Refused x)) same)
+
+  pub finish-refusal : (e : Refusal) {n : ℕ} → number_of e ≡ verdict g state f i c → n ≡ number_of e → world i m c (Refused n) ≡ finish g state (world i m c More)
+  finish-refusal r p q = finish-refused (q ∙ p) (λ z. number_some r (sym q ∙ z))
 
   pub finish-ended : {w : World} → verdict g state f i c ≡ 0 → w ≡ ended f f.opcode (world i m c More) → w ≡ finish g state (world i m c More)
   unfolding finish
@@ -144,13 +165,14 @@ module _ (g : Settings) (state : ℕ) (i : Incoming) (m c : List ℕ) where
   settle-lacking h = rw h
 
   module _ (f : FrameHeader) (there : header_whole i ≡ true) (kept-one : f ≡ frame i) where
-    pub settle-refused : (e : Refusal) {n : ℕ} → number_of e ≡ first_of (header_tests g f) → n ≡ number_of e → world i m c (Refused n) ≡ settle g state (world i m c More)
+    pub settle-refused : {n : ℕ} → n ≡ first_of (header_tests g f) → (n ≡ 0 → ⊥) → world i m c (Refused n) ≡ settle g state (world i m c More)
     unfolding settle refuse
-    settle-refused r {n} p q =
-        let e : n ≡ first_of (header_tests g f) = q ∙ p in
-        let h : n ≡ 0 → ⊥ = λ z. number_some r (sym q ∙ z) in
+    settle-refused {n} e h =
         let same : n ≡ first_of (header_tests g (frame i)) = e ∙ ap (λ (x : FrameHeader). first_of (header_tests g x)) kept-one in
         rw (there, ne_eqb (first_of (header_tests g (frame i))) 0 (λ z. h (same ∙ z))) (ap (λ (x : ℕ). world i m c (Refused x)) same)
+
+    pub settle-refusal : (e : Refusal) {n : ℕ} → number_of e ≡ first_of (header_tests g f) → n ≡ number_of e → world i m c (Refused n) ≡ settle g state (world i m c More)
+    settle-refusal r p q = settle-refused (q ∙ p) (λ z. number_some r (sym q ∙ z))
 
     pub settle-rest : {w : World} → first_of (header_tests g f) ≡ 0 → w ≡ rest g state (world i m c More) → w ≡ settle g state (world i m c More)
     unfolding settle

@@ -1,3 +1,4 @@
+pub mod Sums
 pub mod Dooms
 pub mod Runs
 pub mod Ends

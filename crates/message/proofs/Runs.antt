@@ -100,6 +100,14 @@ module _ (g : Settings) (state : ℕ) (i : Incoming) (m c : List ℕ) (vs : List
   clear : doom g state f i ≡ 0 → eqb (doom g state (frame i) i) 0 ≡ true
   clear h = eq-eqb (doom g state (frame i) i) 0 (ap (λ (x : FrameHeader). doom g state x i) (sym kept-one) ∙ h)
 
+  plain_by : {mask : List ℕ} → (f.masked ≡ true → mask ≡ mask_in (kept i)) → pick f.masked (masked mask i.counted vs) vs ≡ plain i vs
+  unfolding plain
+  plain_by e =
+      let same : f.masked ≡ (frame i).masked = ap (λ (x : FrameHeader). x.masked) kept-one in
+      by_test f.masked
+      (λ t. rw (t, sym same ∙ t) (ap (λ (k : List ℕ). masked k i.counted vs) (e t)))
+      (λ t. rw (t, sym same ∙ t))
+
   pub run-control : {j : Incoming} {mask : Option (List ℕ)} {d : List ℕ} → doom g state f i ≡ 0 → is_control f.opcode ≡ true → header_whole i ≡ true → mask ≡ mask_given (kept i)
       → d ≡ laid c i.counted (framed mask i.counted vs) → j ≡ counts i (length vs) i.progress
       → world j m d More ≡ stored g state (world i m c More) vs

@@ -272,7 +272,7 @@ module _ (g : Settings) (state : ℕ) where
     run_length : length run ≡ to - at
     run_length = length-take-le (to - at) (drop at piece) (simp length-drop (omega arith))
 
-    run-few : 0 < length run → i.counted + length run ≤ (frame i).length
+    pub run-few : 0 < length run → i.counted + length run ≤ (frame i).length
     run-few p = omega (arith, run_length, few (omega (arith, run_length)))
 
     fed-run : {u : World} → u ≡ reached g state (world i m c More) run → feed g state (after (settle g state (world i m c More)) at) run ≡ after (rest g state u) to

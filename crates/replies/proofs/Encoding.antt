@@ -60,6 +60,21 @@ pub fits_parts : (held : ℕ) (output : List ℕ) (client : Bool) (op : OpCode) 
     → fits held output (encoded client op mask (s ++ t)) ≡ leb (header_size client (length s + length t) + (length s + length t)) (length output - held)
 fits_parts held output client op mask s t four = fits_by held output client op mask (s ++ t) four ∙ rw (length-append s t)
 
+-- a payload in two parts, of which the first has n bytes
+pub fits-by_parts : (held : ℕ) (output : List ℕ) (client : Bool) (op : OpCode) (mask s t : List ℕ) {n : ℕ} → length mask ≡ 4 → length s ≡ n
+    → fits held output (encoded client op mask (s ++ t)) ≡ leb (header_size client (n + length t) + (n + length t)) (length output - held)
+fits-by_parts held output client op mask s t four first =
+    fits_by held output client op mask (s ++ t) four ∙ rw (length-append s t, first)
+
+-- ---- a header, and a payload in two parts of which the first has n bytes
+module _ (client : Bool) (op : OpCode) (mask s t : List ℕ) (four : length mask ≡ 4) {n : ℕ} (first : length s ≡ n) {h : FrameHeader} (header : h ≡ frame_header client op (n + length t)) where
+  whole : n + length t ≡ length (s ++ t)
+  whole = ap (λ (k : ℕ). k + length t) (sym first) ∙ sym (length-append s t)
+
+  pub header-room : header_size h.masked h.length ≡ header_size client (n + length t)
+  unfolding frame_header
+  header-room = ap (λ (x : FrameHeader). header_size x.masked x.length) header
+
 -- ---- a header, and a payload in two parts, laid one after the other
 module _ (client : Bool) (op : OpCode) (mask s t : List ℕ) (four : length mask ≡ 4) {h : FrameHeader} (header : h ≡ frame_header client op (length s + length t)) (at : ℕ) {behind : ℕ} (place : behind ≡ at + header_size h.masked h.length) where
   pub behind-frame : behind + (length s + length t) ≡ at + length (encoded client op mask (s ++ t))

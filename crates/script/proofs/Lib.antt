@@ -2,4 +2,5 @@ pub mod Lent
 pub mod OneAnswer
 pub mod Putting
 pub mod Reading
+pub mod Splitting
 pub mod Worked

@@ -1,15 +1,25 @@
 -- Laws of texts that are laid where there is room for them.
-use mathlib.Core.Path.{◌≡◌}
+use mathlib.Core.Path.{◌≡◌, sym, ◌∙◌}
 use mathlib.Core.Bool.{true, false}
 use mathlib.Core.List.{List, [], ◌∷◌}
-use Prim.Native.Nat.{ℕ, ◌+◌}
+use Prim.Native.Nat.{ℕ, ◌+◌, ◌-◌, ◌<◌, ◌≤◌}
 use native.Mathlib.Omega.{arith}
+use borrow.Author.Tests.{le-leb, lt-leb, leb-true, leb-false}
 use lib.Dec.{leb}
 use lib.ListN.{length}
 use Rattle.base.proofs.Choice.{by_test}
 use Rattle.lines.specs.Text.{Wrote, decimal, hex, shown_hex}
 use Rattle.lines.proofs.Laws.{wrote_on, length-hex, shown-none, shown-some, shown-on}
 use Rattle.script.specs.Answers.{Put}
+
+-- ---- whether there is room
+pub room_behind : (size at n : ℕ) → size < at → false ≡ leb (at + n) size
+room_behind size at n h = sym (lt-leb (at + n) size (omega arith))
+
+pub room_left : (size at n : ℕ) → at ≤ size → leb n (size - at) ≡ leb (at + n) size
+room_left size at n h =
+    by_test (leb n (size - at)) (λ t. t ∙ sym (le-leb (at + n) size (omega (arith, leb-true n (size - at) t))))
+    (λ t. t ∙ sym (lt-leb (at + n) size (omega (arith, leb-false n (size - at) t))))
 
 -- ---- there is room for a text, and there is not
 pub put_fits : (room : ℕ) (d : List ℕ) (at : ℕ) (s : List ℕ) {e : List ℕ} {r : ℕ} → leb (at + room) (length d) ≡ true → Wrote d at s e r

@@ -10,9 +10,17 @@ pub both-none : (a : Bool) → both a false ≡ false
 both-none true = refl
 both-none false = refl
 
+pub both-all : (a : Bool) → both a true ≡ a
+both-all true = refl
+both-all false = refl
+
 pub either-all : (a : Bool) → either a true ≡ true
 either-all true = refl
 either-all false = refl
+
+pub both-assoc : (a b c : Bool) → both a (both b c) ≡ both (both a b) c
+both-assoc true b c = refl
+both-assoc false b c = refl
 
 -- what a joined test that holds says
 pub both-parts : (a b : Bool) → both a b ≡ true → (a ≡ true) × (b ≡ true)

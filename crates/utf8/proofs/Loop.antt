@@ -1,7 +1,8 @@
--- What the loop of a scan keeps, and the laws by which it goes on, and ends.
-use mathlib.Core.Path.{◌≡◌, sym, ◌∙◌}
+-- What the loop of a scan keeps, and the laws by which it begins, goes on, and ends.
+use mathlib.Core.Path.{◌≡◌, refl, sym, ◌∙◌}
 use mathlib.Core.List.{List, [], ◌∷◌}
 use Prim.Native.Nat.{ℕ, suc, ◌+◌, ◌<◌, ◌≤◌}
+use native.Mathlib.Nat.{zero-add}
 use native.Mathlib.Numerals.{add-one}
 use native.Mathlib.Omega.{arith}
 use lib.ListN.{length, get_or, drop, drop_of_length-le}
@@ -14,6 +15,9 @@ pub record Left (p : ℕ) (s : List ℕ) (q i : ℕ) : Type 0 where
   pub inside : i ≤ length s
   pub place : first_bad p s ≡ i + first_bad q (drop i s)
   pub reached : progress_after p s ≡ progress_after q (drop i s)
+
+pub left_begins : (p : ℕ) (s : List ℕ) → Left p s p 0
+left_begins p s = record { inside = omega arith; place = sym (zero-add (first_bad p s)); reached = refl }
 
 answer : {p : ℕ} {s : List ℕ} {q i : ℕ} → Left p s q i → (n : ℕ)
     → first_bad q (drop i s) ≡ 0 → progress_after q (drop i s) ≡ n → record { at = i; progress = n } ≡ scanned p s

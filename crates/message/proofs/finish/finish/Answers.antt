@@ -2,7 +2,7 @@
 use mathlib.Core.Path.{sym}
 use native.Mathlib.Omega.{arith}
 use Rattle.message.proofs.Dooms.{data_room}
-use Rattle.message.proofs.Ends.{doom-clear, finish-refused, finish-ended}
+use Rattle.message.proofs.Ends.{doom-clear, finish-refusal, finish-ended}
 use Rattle.message.proofs.finish.finish.Goals as goal
 
 pub end_frame-requires : goal.end_frame-requires
@@ -17,4 +17,4 @@ returns-in-Ok-clause-finished c = λ m.
 
 pub returns-in-Err-clause-finished : goal.returns-in-Err-clause-finished
 returns-in-Err-clause-finished c = λ m.
-    finish-refused c.args.session.now.settings c.args.session.now.state c.args.session.now.incoming m c.args.control.now c.args.header c.requires.header_kept _ c.in-Err.ensures c.number.ensures
+    finish-refusal c.args.session.now.settings c.args.session.now.state c.args.session.now.incoming m c.args.control.now c.args.header c.requires.header_kept _ c.in-Err.ensures c.number.ensures

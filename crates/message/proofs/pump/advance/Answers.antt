@@ -1,7 +1,7 @@
 -- `message::pump::advance` meets its contract: a turn in the header, a refusal by it, or a turn in the payload.
 use mathlib.Core.Path.{refl, sym, ◌∙◌}
 use Rattle.session.proofs.Holds.{whole_lacking, whole_there, frame-there}
-use Rattle.message.proofs.Ends.{settle-refused}
+use Rattle.message.proofs.Ends.{settle-refusal}
 use Rattle.message.proofs.Steps.{turned_still}
 use Rattle.message.proofs.pump.advance.Goals as goal
 
@@ -16,7 +16,7 @@ returns-in-Err-clause-turned c =
     let s = c.args.session.now in
     let there = sym c.kept_header.ensures ∙ c.in-Some.is in
     turned_still s.settings s.state c.args.piece.now c.args.at _ _ c.requires.at_within
-    (settle-refused s.settings s.state s.incoming c.args.message.now c.args.control.now c.in-Some.header (whole_there s.incoming _ there) (sym (frame-there s.incoming _ there))
+    (settle-refusal s.settings s.state s.incoming c.args.message.now c.args.control.now c.in-Some.header (whole_there s.incoming _ there) (sym (frame-there s.incoming _ there))
     c.in-Err.refusal c.in-Err.ensures c.number.ensures)
     refl
 
