@@ -3,6 +3,8 @@ ghost use Rattle.std.specs.Prelude.{◌≡◌, ℕ, ◌≤◌, List, length, tak
 ghost use Rattle.frame.specs.Close.{close_of};
 ghost use Rattle.reader.specs.Fit.{Shows};
 ghost use Rattle.session.specs.Calls.{turn, flagged};
+ghost use Rattle.reader.specs.Whole.{flag_answer, flag_state};
+ghost use Rattle.session.specs.Session.{with_state};
 ghost use Rattle.session.specs.Replies.{concluded, code_allowed, shown_length, shown_control, ping_came, close_came, conclude};
 
 use frame::close::ClosePayload;
@@ -86,9 +88,10 @@ pub(crate) fn conclude(session: &mut Session, answer: Answer, control: &mut [u8]
 }
 
 // The end flag, once the bytes are taken and the event has left what it leaves: it ends a session that has no event to tell.
-#[tactic(auto, unfolding(session::specs::Calls::flagged))]
+#[tactic(auto, unfolding(session::specs::Calls::flagged, crate::specs::Whole::flag_answer, crate::specs::Whole::flag_state))]
 pub(crate) fn flag(session: &mut Session, end: bool, answer: Answer) -> Answer
-    ensures { (n : ℕ) (c : List ℕ) → turn result n session.new ≡ flagged end (concluded answer session.old c) n }
+    ensures whole { (n : ℕ) (c : List ℕ) → turn result n session.new ≡ flagged end (concluded answer session.old c) n }
+    ensures parts { (result ≡ flag_answer end answer session.old.state) × (session.new ≡ with_state session.old (flag_state end answer session.old.state)) }
 {
     if !end || !message::pump::is_more(answer) {
         return answer;

@@ -42,7 +42,7 @@ reply_fits_one κs a z z' e e' p q = p ∙ sym q
 
 -- the session that is left, and the output store
 pub move_reply_one : OneLent 2 move-reply.ps move-reply.r (λ κs e. e.0.now) move-reply-reads.Post
-move_reply_one κs a z z' e e' p q = ap (λ (x : Left). x.session) (p ∙ sym q)
+move_reply_one κs a z z' e e' p q = ap (λ (x : Left). x.session) (p.0 ∙ sym q.0)
 
 pub move_reply_one_store : OneStore 2 move-reply.ps move-reply.r (λ κs e. e.1.1.0.now) move-reply-reads.Post
-move_reply_one_store κs a z z' e e' p q = ap (λ (x : Left). x.output) (p ∙ sym q)
+move_reply_one_store κs a z z' e e' p q = ap (λ (x : Left). x.output) (p.0 ∙ sym q.0)

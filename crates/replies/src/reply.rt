@@ -4,6 +4,7 @@ ghost use Rattle.frame.specs.Header.{header_size};
 ghost use Rattle.session.specs.Range.{waits};
 ghost use Rattle.session.specs.Replies.{reply_of, with_pong, reply_code, is_close_reply, out, move_reply};
 ghost use Rattle.session.specs.Session.{is_client};
+ghost use Rattle.replies.specs.Moves.{moving, move_of};
 
 use coding::opcode::{Control, OpCode};
 use session::{Reply, Session, Waiting};
@@ -66,11 +67,12 @@ pub fn reply_fits(session: &Session, size: usize) -> bool
 }
 
 // The waiting reply moves behind the held bytes if it fits, and else waits on.
-#[tactic(auto, using(crate::proofs::Encoding::fits_by), unfolding(session::specs::Replies::move_reply, session::specs::Replies::appended, session::specs::Replies::reply_frame, session::specs::Replies::no_reply))]
+#[tactic(auto, using(crate::proofs::Encoding::fits_by), unfolding(session::specs::Replies::move_reply, session::specs::Replies::appended, session::specs::Replies::reply_frame, session::specs::Replies::no_reply, crate::specs::Moves::move_of, crate::specs::Moves::reply_bytes))]
 pub fn move_reply(session: &mut Session, mask: [u8; 4], output: &mut [u8])
     requires reply_short { waits session.old.reply.waiting ≡ true → session.old.reply.length ≤ 125 }
     requires held_within { session.old.held ≤ length output.old }
-    ensures { out session.new output.new ≡ move_reply session.old mask output.old }
+    ensures whole { out session.new output.new ≡ move_reply session.old mask output.old }
+    ensures parts { moving session.new.reply session.new.held output.new ≡ move_of (is_client session.old.settings) session.old.reply session.old.held mask output.old }
 {
     if !session::range::waits(session.reply.waiting) {
         return;

@@ -22,9 +22,9 @@ read_on-taken-requires c =
     let all = ready _ _ _ _ _ (c.in_default.ensures _ four) in
     let shaped : Shaped c.args.session = (search rules, search rules) in
     record {
-      shaped = moved_shaped _ _ _ c.move_reply.ensures shaped;
-      ranged = moved_range _ _ _ c.move_reply.ensures all.ranged;
-      header_kept = c.kept_header-header.ensures ∙ ap (λ (i : Incoming). parsed (kept i)) (sym (moved_incoming _ _ _ c.move_reply.ensures));
-      message_room = omega (arith, all.room.for_message, moved_limit _ _ _ c.move_reply.ensures);
+      shaped = moved_shaped _ _ _ c.move_reply.ensures.whole shaped;
+      ranged = moved_range _ _ _ c.move_reply.ensures.whole all.ranged;
+      header_kept = c.kept_header-header.ensures ∙ ap (λ (i : Incoming). parsed (kept i)) (sym (moved_incoming _ _ _ c.move_reply.ensures.whole));
+      message_room = omega (arith, all.room.for_message, moved_limit _ _ _ c.move_reply.ensures.whole);
       control_room = all.room.for_control;
     }

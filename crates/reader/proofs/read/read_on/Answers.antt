@@ -28,5 +28,5 @@ returns c output =
     let same = c.take_within.ensures.declined c.if-take_within.false in
     take_left _ c.args.piece.now _ _ (undone c.args.piece.now same c.take_bytes-taken.ensures.fed)
     (c.take_bytes-taken.ensures.rest ∙ ap (λ (s : Session). with_incoming s c.take_bytes-taken.new.session.incoming) same.0)
-    c.args.end c.conclude-answer.ensures c.flag.ensures output
+    c.args.end c.conclude-answer.ensures c.flag.ensures.whole output
     ∙ on_open _ _ _ _ _ output (sym c.is_over.ensures ∙ c.if-is_over.false)

@@ -51,4 +51,4 @@ returns c =
       ← c.put_frame-behind.ensures.0,
       ← c.put_frame-behind.ensures.1,
     )
-    (ap (λ (v : Out). sending Done v.session v.output) c.move_reply.ensures)
+    (ap (λ (v : Out). sending Done v.session v.output) c.move_reply.ensures.whole)
