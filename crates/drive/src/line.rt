@@ -91,11 +91,8 @@ pub(crate) fn flag(word: &[u8]) -> Option<bool> {
 }
 
 fn role(word: &[u8]) -> Option<Role> {
-    match word {
-        b"server" => Some(Role::Server),
-        b"client" => Some(Role::Client),
-        _ => None,
-    }
+    let place = script::words::place(b"server client", word)?;
+    [Role::Server, Role::Client].get(place).copied()
 }
 
 fn masks(word: &[u8]) -> Option<Masks> {
@@ -193,7 +190,15 @@ impl Line {
         if line.first() == Some(&b'#') {
             return Some(Line::Passed);
         }
-        let words: [&[u8]; 5] = array::from_fn(|k| script::words::word(line, k));
-        understood(words.get(..script::words::count(line))?, room)
+        let n = script::words::count(line);
+        // A word behind the last is not looked for, which would be another way through a long line.
+        let words: [&[u8]; 5] = array::from_fn(|k| {
+            if k < n {
+                script::words::word(line, k)
+            } else {
+                &[]
+            }
+        });
+        understood(words.get(..n)?, room)
     }
 }

@@ -12,12 +12,9 @@ pub(crate) enum Store {
 
 impl Store {
     pub(crate) fn named(name: &[u8]) -> Option<Store> {
-        match name {
-            b"message" => Some(Store::Message),
-            b"control" => Some(Store::Control),
-            b"output" => Some(Store::Output),
-            _ => None,
-        }
+        let stores = [Store::Message, Store::Control, Store::Output];
+        let place = script::words::place(b"message control output", name)?;
+        stores.get(place).copied()
     }
 }
 

@@ -3,7 +3,7 @@
 #![tactic(auto)]
 
 ghost use Rattle.std.specs.Prelude.{◌≡◌, ◌≤◌, length, take};
-ghost use Rattle.input.specs.Window.{no_window, sum_of, shown_of, used_of, next_of, line_feed_in};
+ghost use Rattle.input.specs.Window.{no_window, sum_of, shown_of, used_of, next_of};
 
 use std::io;
 use std::io::Read;
@@ -61,12 +61,6 @@ pub fn sum(a: usize, b: usize) -> usize
     }
 }
 
-fn line_feed(bytes: &[u8]) -> Option<usize>
-    ensures { result ≡ line_feed_in bytes.now }
-{
-    bytes.iter().position(|b| *b == b'\n')
-}
-
 impl Window {
     pub fn shown(self, bytes: &[u8]) -> &[u8]
         ensures { result.now ≡ shown_of bytes.now self }
@@ -88,7 +82,7 @@ impl Window {
         ensures { result ≡ next_of bytes.now self longest }
     {
         let shown = self.shown(bytes);
-        match line_feed(shown) {
+        match script::words::find(shown, b'\n') {
             Some(n) if longest < n => Next::Long,
             Some(n) => Next::Line(n),
             None if longest < shown.len() => Next::Long,

@@ -39,20 +39,24 @@ enum Kind {
     Code,
 }
 
+// Their words, in the order of the kinds.
+const WORDS: &[u8] = b"opcode header write mask copy utf8 step close code";
+
+const KINDS: [Kind; 9] = [
+    Kind::Opcode,
+    Kind::Header,
+    Kind::Write,
+    Kind::Mask,
+    Kind::Copy,
+    Kind::Utf8,
+    Kind::Step,
+    Kind::Close,
+    Kind::Code,
+];
+
 impl Kind {
     fn of(word: &[u8]) -> Option<Kind> {
-        match word {
-            b"opcode" => Some(Kind::Opcode),
-            b"header" => Some(Kind::Header),
-            b"write" => Some(Kind::Write),
-            b"mask" => Some(Kind::Mask),
-            b"copy" => Some(Kind::Copy),
-            b"utf8" => Some(Kind::Utf8),
-            b"step" => Some(Kind::Step),
-            b"close" => Some(Kind::Close),
-            b"code" => Some(Kind::Code),
-            _ => None,
-        }
+        KINDS.get(script::words::place(WORDS, word)?).copied()
     }
 
     // Whether there is a record of this kind with so many bytes.
