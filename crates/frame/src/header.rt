@@ -39,6 +39,7 @@ pub fn missing(bytes: &[u8]) -> usize
 }
 
 // Reads the header that the bytes begin with, where it is whole; those behind it are not looked at.
+#[inline(always)]
 #[tactic(auto, using(crate::proofs::Headers::whole_length))]
 pub fn parse(bytes: &[u8]) -> Option<FrameHeader>
     ensures { result ≡ parsed bytes.now }

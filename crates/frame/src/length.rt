@@ -52,13 +52,25 @@ pub(crate) fn length_code(length: u64) -> u8
     }
 }
 
-// Lays the bytes of length that follow the code over the store from place `at` on, and gives the place behind them.
+// Lays bytes over the store from place `at` on, and gives the place behind them.
+fn lay(bytes: &[u8], store: &mut [u8], at: usize) -> usize
+    requires { at + length bytes.now ≤ length store.old }
+    ensures { (result ≡ at + length bytes.now) × (store.new ≡ laid store.old at bytes.now) }
+{
+    stores::copy(bytes, store, at);
+    at + bytes.len()
+}
+
+// Lays the bytes of length that follow the code over the store from place `at` on, and gives the place behind them. Each form has a copy of so
+// many bytes as it has, which is a store of one number; a copy of as many as the code says would be a call. Kept: `as u16`, which is exact in
+// its arm.
 pub(crate) fn write_length(n: u64, store: &mut [u8], at: usize) -> usize
     requires { at + length (length_bytes n) ≤ length store.old }
     ensures { (result ≡ at + length (length_bytes n)) × (store.new ≡ laid store.old at (length_bytes n)) }
 {
-    let bytes = n.to_be_bytes();
-    let extra = &bytes[8 - extra_bytes(length_code(n))..];
-    stores::copy(extra, store, at);
-    at + extra.len()
+    match n {
+        0..=125 => at,
+        126..=65535 => lay(&(n as u16).to_be_bytes(), store, at),
+        _ => lay(&n.to_be_bytes(), store, at),
+    }
 }

@@ -64,6 +64,7 @@ fn kept_holds(second: u8, kept: usize) -> bool
 }
 
 // The header that is kept, read: more bytes are kept than there are only in a session that is out of range.
+#[inline(always)]
 pub fn kept_header(incoming: &Incoming) -> Option<FrameHeader>
     ensures { result ≡ parsed (kept incoming.now) }
 {
@@ -116,6 +117,7 @@ fn reply_holds(reply: &Reply) -> bool
 }
 
 // Whether a session's numbers are in range, for who has read the kept header already.
+#[inline(always)]
 #[tactic(auto, unfolding(crate::specs::Range::in_range, crate::specs::Range::range_of))]
 pub fn in_range_by(session: &Session, header: Option<FrameHeader>) -> bool
     requires { header ≡ parsed (kept session.now.incoming) }
@@ -127,7 +129,9 @@ pub fn in_range_by(session: &Session, header: Option<FrameHeader>) -> bool
         && incoming_holds(session, header)
 }
 
-// Whether a session's numbers are in range.
+// Whether a session's numbers are in range. It is part of its callers, and so are what it asks and what asks it (`parse`, `writer::output::owed`):
+// where a call is made with a session's address, the session lies in memory, and a loop of calls copies it whole from one to the next.
+#[inline(always)]
 pub fn in_range(session: &Session) -> bool
     ensures { result ≡ in_range session.now }
 {

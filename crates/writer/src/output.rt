@@ -15,6 +15,7 @@ pub fn waits(session: Session) -> bool
 }
 
 // What a session and an output store owe before anything else is asked: 20, then 1.
+#[inline(always)]
 #[tactic(auto, unfolding(base::specs::Tests::first_of, session::specs::Calls::held_number, session::specs::Calls::output_short))]
 pub(crate) fn owed(session: &Session, output: &[u8]) -> Result<(), Refusal>
     ensures { numbered result ≡ held_number session.now output.now }
