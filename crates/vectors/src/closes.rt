@@ -1,5 +1,6 @@
 // Close payloads.
 use crate::told;
+use coding::close_code::CloseCode;
 use frame::close::ClosePayload;
 use script::answers::Text;
 
@@ -15,7 +16,8 @@ pub(crate) fn payload(args: &[u8], text: &mut Text<'_>) {
 }
 
 pub(crate) fn code(args: &[u8], text: &mut Text<'_>) {
-    let code = crate::args::code(args);
+    // by its class, which carries it
+    let code = u16::from(CloseCode::from(crate::args::code(args)));
     text.number(u64::from(code));
     text.hex(&frame::close::code_bytes(code));
 }

@@ -3,27 +3,77 @@ use crate::told;
 use coding::close_code::CloseCode;
 use script::answers::Text;
 
-// The word of a class.
-fn word_of(class: CloseCode) -> &'static [u8] {
-    match class {
-        CloseCode::Normal => b"normal",
-        CloseCode::Away => b"away",
-        CloseCode::Protocol => b"protocol",
-        CloseCode::Unsupported => b"unsupported",
-        CloseCode::Status => b"status",
-        CloseCode::Abnormal => b"abnormal",
-        CloseCode::Invalid => b"invalid",
-        CloseCode::Policy => b"policy",
-        CloseCode::Size => b"size",
-        CloseCode::Extension => b"extension",
-        CloseCode::Error => b"error",
-        CloseCode::Restart => b"restart",
-        CloseCode::Again => b"again",
-        CloseCode::Tls => b"tls",
-        CloseCode::Reserved(_) => b"reserved",
-        CloseCode::Iana(_) => b"iana",
-        CloseCode::Library(_) => b"library",
-        CloseCode::Bad(_) => b"bad",
+// The words of the classes, and `wrong`. They are compared for each code, so they are an enum and no letters.
+#[derive(Clone, Copy, PartialEq, Eq)]
+enum Word {
+    Normal,
+    Away,
+    Protocol,
+    Unsupported,
+    Status,
+    Abnormal,
+    Invalid,
+    Policy,
+    Size,
+    Extension,
+    Error,
+    Restart,
+    Again,
+    Tls,
+    Reserved,
+    Iana,
+    Library,
+    Bad,
+    Wrong,
+}
+
+impl Word {
+    // The word of a class, and the code that it carries.
+    fn of(class: CloseCode) -> (Word, u16) {
+        match class {
+            CloseCode::Normal => (Word::Normal, 1000),
+            CloseCode::Away => (Word::Away, 1001),
+            CloseCode::Protocol => (Word::Protocol, 1002),
+            CloseCode::Unsupported => (Word::Unsupported, 1003),
+            CloseCode::Status => (Word::Status, 1005),
+            CloseCode::Abnormal => (Word::Abnormal, 1006),
+            CloseCode::Invalid => (Word::Invalid, 1007),
+            CloseCode::Policy => (Word::Policy, 1008),
+            CloseCode::Size => (Word::Size, 1009),
+            CloseCode::Extension => (Word::Extension, 1010),
+            CloseCode::Error => (Word::Error, 1011),
+            CloseCode::Restart => (Word::Restart, 1012),
+            CloseCode::Again => (Word::Again, 1013),
+            CloseCode::Tls => (Word::Tls, 1015),
+            CloseCode::Reserved(code) => (Word::Reserved, code),
+            CloseCode::Iana(code) => (Word::Iana, code),
+            CloseCode::Library(code) => (Word::Library, code),
+            CloseCode::Bad(code) => (Word::Bad, code),
+        }
+    }
+
+    fn letters(self) -> &'static [u8] {
+        match self {
+            Word::Normal => b"normal",
+            Word::Away => b"away",
+            Word::Protocol => b"protocol",
+            Word::Unsupported => b"unsupported",
+            Word::Status => b"status",
+            Word::Abnormal => b"abnormal",
+            Word::Invalid => b"invalid",
+            Word::Policy => b"policy",
+            Word::Size => b"size",
+            Word::Extension => b"extension",
+            Word::Error => b"error",
+            Word::Restart => b"restart",
+            Word::Again => b"again",
+            Word::Tls => b"tls",
+            Word::Reserved => b"reserved",
+            Word::Iana => b"iana",
+            Word::Library => b"library",
+            Word::Bad => b"bad",
+            Word::Wrong => b"wrong",
+        }
     }
 }
 
@@ -31,16 +81,17 @@ fn word_of(class: CloseCode) -> &'static [u8] {
 // that judge a code do not agree.
 #[derive(Clone, Copy, PartialEq, Eq)]
 struct Sort {
-    word: &'static [u8],
+    word: Word,
     allowed: bool,
 }
 
 fn sort_of(code: u16) -> Sort {
     let class = CloseCode::from(code);
+    let (word, carried) = Word::of(class);
     let allowed = coding::close_code::is_allowed(code);
-    let right = u16::from(class) == code && class.is_allowed() == allowed;
+    let right = carried == code && class.is_allowed() == allowed;
     Sort {
-        word: if right { word_of(class) } else { b"wrong" },
+        word: if right { word } else { Word::Wrong },
         allowed,
     }
 }
@@ -49,7 +100,7 @@ fn run(from: u16, to: u16, sort: Sort, text: &mut Text<'_>) {
     text.put(b"codes");
     text.number(u64::from(from));
     text.number(u64::from(to));
-    told::word(sort.word, text);
+    told::word(sort.word.letters(), text);
     text.number(u64::from(sort.allowed));
 }
 
