@@ -124,6 +124,9 @@ pub given-there : (h : List ℕ) → missing h ≡ 0 → (second_of (get_or h 1 
 unfolding mask_given
 given-there h e f = rw (eq-eqb (missing h) 0 e, f, mask_there h e f)
 
+-- by which it is shown where the mask lies, and where there is none
+pub ruleset mask_rules = (mask_place, whole_length, masked_clear, given-lacking, given-none)
+
 -- zeros where there is none
 pub mask_given_or : (h : List ℕ) → unwrap_or (mask_given h) no_mask ≡ mask_in h
 unfolding mask_given mask_in

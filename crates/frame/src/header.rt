@@ -60,7 +60,7 @@ pub fn parse(bytes: &[u8]) -> Option<FrameHeader>
 }
 
 // The mask of a whole header that has one.
-#[tactic(auto, using(crate::proofs::Headers::mask_place, crate::proofs::Headers::whole_length))]
+#[tactic(auto, using(crate::proofs::Headers::mask_rules))]
 pub fn mask_of(bytes: &[u8]) -> Option<[u8; 4]>
     ensures { result ≡ mask_given bytes.now }
 {
