@@ -1,7 +1,7 @@
 // Runs of bytes in lent stores, carried over from what the Rust's protocol/frame/mod.rs does with its buffers.
 // Kept: a store and the place in it are two parameters, here and where frames are laid, and the room is asked for: a frame's parts are laid one
 // behind the other over one store, and what is promised is its whole content.
-#![tactic(auto, using(crate::proofs::Moves::moved_to_front))]
+#![tactic(auto)]
 
 ghost use Rattle.std.specs.Prelude.{◌≡◌, ◌+◌, ◌-◌, ◌≤◌, length};
 ghost use Rattle.base.specs.Bytes.{part};
@@ -37,5 +37,7 @@ pub fn to_front(store: &mut [u8], n: usize, held: usize)
     requires { (n ≤ held) × (held ≤ length store.old) }
     ensures { store.new ≡ laid store.old 0 (part n (held - n) store.old) }
 {
-    store.copy_within(n..held, 0);
+    for i in 0..held - n {
+        store[i] = store[n + i];
+    }
 }
