@@ -1,6 +1,7 @@
 -- Laws of the words of a line: for what goes along its bytes, and for what goes from word to word.
 use mathlib.Core.Path.{◌≡◌, refl, sym, ap, ap₂, ◌∙◌}
 use mathlib.Core.Bool.{Bool, true, false, cond, not}
+use mathlib.Core.Logic.{◌≢◌}
 use mathlib.Core.List.{List, [], ◌∷◌}
 use Prim.Native.Nat.{ℕ, zero, suc, ◌+◌, ◌-◌, ◌<◌, ◌≤◌, min}
 use native.Mathlib.Nat.{min-eq_left, min-eq_right}
@@ -12,8 +13,10 @@ use lib.ListN.{length, get_or, take, drop, length-drop, drop_of_length-le}
 use lib.Seq.{drop-cons, drop-length, take_all}
 use Rattle.std.specs.Prelude.{Option, Some, None, ◌==◌, option_map, unwrap_or}
 use Rattle.std.specs.List.{onto_first, position_or_len}
+use Rattle.std.specs.Option.{MatchOption}
 use Rattle.std.specs.Str.{bytes_eq}
 use Rattle.std.proofs.lemmas.List.Splits.{slice_split_first, length-slice_split}
+use Rattle.std.proofs.lemmas.List.Sums.{position_or_len_is}
 use Rattle.std.proofs.lemmas.Slice.Eq.{bytes_eq-Decides}
 use Rattle.base.specs.Tests.{both}
 use Rattle.base.proofs.Choice.{by_test}
@@ -81,6 +84,19 @@ find_ended b s i h = rw (drop_of_length-le s h)
 
 pub find_within : (b : ℕ) (s : List ℕ) {n : ℕ} → find_in b s ≡ Some n → n < length s
 find_within b s e = (found s b e).1
+
+-- the first of all places at which the byte stands, or that it stands at none
+pub first_of : (s : List ℕ) (b : ℕ) (r : Option ℕ)
+    → MatchOption r ((k : ℕ) → 0 ≤ k → k < length s → get_or s k 0 ≢ b) (λ i. (0 ≤ i) × (i < length s) × (get_or s i 0 ≡ b) × ((k : ℕ) → 0 ≤ k → k < i → get_or s k 0 ≢ b))
+    → r ≡ find_in b s
+first_of s b None h =
+    let p : first_at b s ≡ length s =
+    position_or_len_is (λ x. x == b) s (length s) 0 (omega arith) (λ k l. ne_eqb (get_or s k 0) b (h k (omega arith) l)) (λ l. absurd (omega arith)) in
+    rw (p, le-ltb (length s) (length s) (omega arith))
+first_of s b (Some i) h =
+    let p : first_at b s ≡ i =
+    position_or_len_is (λ x. x == b) s i 0 (omega (arith, h.1)) (λ k l. ne_eqb (get_or s k 0) b (h.3 k (omega arith) l)) (λ l. eq-eqb (get_or s i 0) b h.2) in
+    rw (p, lt-ltb i (length s) h.1)
 
 -- ---- how many words: a space is passed; another byte is; the line ends
 onto-length : (b : ℕ) (ws : List (List ℕ)) → 0 < length ws → length (onto_first b ws) ≡ length ws

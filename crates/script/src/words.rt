@@ -6,7 +6,7 @@ ghost use Rattle.script.specs.Words.{further, find_in, words_of, place_in};
 pub fn find(all: &[u8], byte: u8) -> Option<usize>
     ensures { result ≡ find_in byte all.now }
 {
-    all.iter().position(|b| *b == byte)
+    (0..all.len()).find(|at| all[*at] == byte)
 }
 
 // A byte, 0 behind the end.
