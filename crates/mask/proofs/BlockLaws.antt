@@ -11,7 +11,7 @@ use lib.Seq.{take-add, take_all, take-suc-set, length-take-le, ext_get_or, drop-
 use Rattle.std.specs.Simd.{first_chunks}
 use Rattle.base.specs.Bytes.{part}
 use Rattle.base.specs.Stores.{laid}
-use Rattle.base.proofs.Bytes.{length_part, part-more}
+use Rattle.base.proofs.Bytes.{length_part, part_at, part-more}
 use Rattle.base.proofs.Stores.{laid-append}
 use Rattle.mask.specs.Blocks.{key_at, xored, in_blocks}
 use Rattle.mask.specs.Mask.{masked}
@@ -40,6 +40,35 @@ chunk_at (suc n) (suc i) s h =
 -- block i of a slice's blocks
 pub block_at : (s : List ℕ) (n i : ℕ) {blocks : List (List ℕ)} → blocks ≡ first_chunks 8 n s → i < n → get_or blocks i [] ≡ part (8 * i) 8 s
 block_at s n i e h = rw e (chunk_at n i s h)
+
+-- a block, byte by byte
+abbrev pub eight_at : List ℕ → ℕ → List ℕ
+eight_at s i =
+    get_or s (i + 0) 0
+    ∷ get_or s (i + 1) 0
+    ∷ get_or s (i + 2) 0
+    ∷ get_or s (i + 3) 0
+    ∷ get_or s (i + 4) 0
+    ∷ get_or s (i + 5) 0
+    ∷ get_or s (i + 6) 0
+    ∷ get_or s (i + 7) 0
+    ∷ []
+
+eighth : (s : List ℕ) (i j : ℕ) → j < 8 → get_or (eight_at s i) j 0 ≡ get_or s (i + j) 0
+eighth s i zero h = refl
+eighth s i (suc zero) h = refl
+eighth s i (suc (suc zero)) h = refl
+eighth s i (suc (suc (suc zero))) h = refl
+eighth s i (suc (suc (suc (suc zero)))) h = refl
+eighth s i (suc (suc (suc (suc (suc zero))))) h = refl
+eighth s i (suc (suc (suc (suc (suc (suc zero)))))) h = refl
+eighth s i (suc (suc (suc (suc (suc (suc (suc zero))))))) h = refl
+eighth s i (suc (suc (suc (suc (suc (suc (suc (suc j)))))))) h = absurd (omega arith)
+
+pub part_eight : (s : List ℕ) (i : ℕ) → i + 8 ≤ length s → eight_at s i ≡ part i 8 s
+part_eight s i h =
+    let n : length (part i 8 s) ≡ 8 = length_part i 8 s h in
+    ext_get_or 0 (eight_at s i) (part i 8 s) (sym n) (λ j l. eighth s i j l ∙ sym (part_at i 8 s j l))
 
 -- ---- the phase
 
@@ -122,13 +151,22 @@ laid-rest d mask s at p i {x} {y} e q r =
     let whole : take i s ++ rest ≡ s = sym (take-add i (length s - i) s) ∙ rw all (take_all (length s) s (omega arith)) in
     r ∙ rw q (masked-behind d mask s rest at p p i (omega arith) (omega arith)) ∙ ap (λ (l : List ℕ). laid d at (masked mask p l)) whole
 
--- the same of blocks and rest as a slice is cut into them, with the key
+-- the same with the key, and counted by blocks
+pub laid-left : (d mask s : List ℕ) (at p : ℕ) {k l x y : List ℕ} {n m : ℕ} → k ≡ key_at mask p → l ≡ key_at mask p → n ≡ m → m ≡ length s / 8
+    → x ≡ laid d at (masked k 0 (take (8 * n) s)) → y ≡ laid x (at + 8 * m) (masked l 0 (take (length s - 8 * m) (drop (8 * m) s)))
+    → y ≡ laid d at (masked mask p s)
+laid-left d mask s at p {k} {l} {x} {y} {n} {m} e f g h q r =
+    let i : ℕ = 8 * m in
+    let rest : List ℕ = take (length s - i) (drop i s) in
+    let turned : masked l 0 rest ≡ masked mask p rest = rw (f, masked-key mask p 0 rest, add-zero) in
+    laid-rest d mask s at p i (omega arith) (laid-blocks d mask (take i s) at p e (rw g at q)) (r ∙ rw turned)
+
+-- and as a slice is cut into blocks and rest
 pub laid-whole : (d mask s : List ℕ) (at p : ℕ) {k rest x y : List ℕ} {n : ℕ} → k ≡ key_at mask p → n ≡ length s / 8 → rest ≡ drop (length s / 8 * 8) s
     → x ≡ laid d at (masked k 0 (take (8 * n) s)) → y ≡ laid x (at + 8 * n) (masked k 0 rest) → y ≡ laid d at (masked mask p s)
 laid-whole d mask s at p {k} {rest} {x} {y} {n} e f g q r =
     let i : ℕ = 8 * n in
     let all : drop i s ≡ take (length s - i) (drop i s) = sym (take_all (length s - i) (drop i s) (simp length-drop (omega arith))) in
     let same : length s / 8 * 8 ≡ i = omega arith in
-    let turned : masked k 0 rest ≡ masked mask p (take (length s - i) (drop i s)) =
-    rw (e, g, same, masked-key mask p 0 (drop i s), add-zero, ← all) in
-    laid-rest d mask s at p i (omega arith) (laid-blocks d mask (take i s) at p e q) (r ∙ rw turned)
+    let behind : rest ≡ take (length s - i) (drop i s) = rw (g, same, ← all) in
+    laid-left d mask s at p e e refl f q (r ∙ rw behind)

@@ -1,6 +1,7 @@
 // What masking by blocks of eight bytes is made of. The compiler can't know that piece and store are apart. It makes vector code of this since
 // all of a block is read before any of it is written.
 ghost use Rattle.std.specs.Prelude.{◌≡◌, ◌+◌, ◌≤◌, length};
+ghost use Rattle.base.specs.Bytes.{part};
 ghost use Rattle.base.specs.Stores.{laid};
 ghost use Rattle.mask.specs.Blocks.{key_at, xored};
 
@@ -14,6 +15,13 @@ pub(crate) fn key_at(mask: [u8; 4], position: usize) -> [u8; 8]
     let c = mask[(phase + 2) % 4];
     let d = mask[(phase + 3) % 4];
     [a, b, c, d, a, b, c, d]
+}
+
+pub(crate) fn block_at(piece: &[u8], from: usize) -> [u8; 8]
+    requires { from + 8 ≤ length piece.now }
+    ensures { result ≡ part from 8 piece.now }
+{
+    std::array::from_fn(|i| piece[from + i])
 }
 
 pub(crate) fn xor(block: [u8; 8], key: [u8; 8]) -> [u8; 8]
