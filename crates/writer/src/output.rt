@@ -47,7 +47,9 @@ pub fn held(session: Session, output: &[u8]) -> &[u8]
     }
 }
 
-// Takes the first n held bytes away and moves the rest to the front.
+// Takes the first n held bytes away and moves the rest to the front. It is part of its callers, as what it asks is (`owed`): else a session is
+// copied for it twice.
+#[inline(always)]
 pub fn take(mut session: Session, n: usize, output: &mut [u8]) -> Handed
     ensures { sending (sent_of result.sent) result.session output.new ≡ take_call session n output.old }
 {

@@ -20,7 +20,7 @@ pub read_on-taken-requires : goal.read_on-taken-requires
 read_on-taken-requires c =
     let four : length c.args.masks.first ≡ 4 = search rules in
     let all = ready _ _ _ _ _ (c.in_default.ensures _ four) in
-    let shaped : Shaped c.args.session = (search rules, search rules) in
+    let shaped : Shaped c.by_fields-session.result = (search rules, search rules) in
     record {
       shaped = moved_shaped _ _ _ c.move_reply.ensures.whole shaped;
       ranged = moved_range _ _ _ c.move_reply.ensures.whole all.ranged;
