@@ -22,7 +22,7 @@ use Rattle.session.specs.declared.Session.{Session}
 use Rattle.session.specs.Calls.{output_short, sending, send_tests, send_frame, close_call, pong_call, held_number, held_part, take_tests, take_call}
 use Rattle.session.specs.Range.{in_range}
 use Rattle.session.specs.Refusals.{Done, Refused as NotSent}
-use Rattle.session.specs.Replies.{encoded, fits, with_pong, Out, appended, move_reply}
+use Rattle.session.specs.Replies.{encoded, fits, with_pong, Out, out, appended, move_reply}
 use Rattle.session.specs.Session.{is_client, with_state, with_reply, with_held}
 use Rattle.session.proofs.Choices.{either-all}
 use Rattle.utf8.specs.Progress.{progress_after, is_whole}
@@ -35,6 +35,12 @@ handed-over : (s : Session) (mask output : List ℕ) {q : Reply} {n : ℕ} {o : 
     → moving q n o ≡ move_of (is_client s.settings) s.reply s.held mask output
     → sending Done (with_held (with_reply s q) n) o ≡ sending Done (move_reply s mask output).session (move_reply s mask output).output
 handed-over s mask output m = ap (λ (v : Out). sending Done v.session v.output) (parts_move s mask output m)
+
+-- the same of a session that holds what a frame left
+pub moved_behind : (s : Session) (mask o : List ℕ) {held behind : ℕ} {t : Session} {o' : List ℕ} → held ≡ behind
+    → out t o' ≡ move_reply (with_held s held) mask o
+    → sending Done t o' ≡ sending Done (move_reply (with_held s behind) mask o).session (move_reply (with_held s behind) mask o).output
+moved_behind s mask o e m = ap (λ (v : Out). sending Done v.session v.output) (rw e at m)
 
 -- ---- a frame
 module _ (s : Session) (state : ℕ) (op : OpCode) (bad : Bool) (p : List ℕ) (masks : Masks) (output : List ℕ) where

@@ -1,13 +1,14 @@
 -- `writer::send::send_frame` meets its contract: a number is owed, or there is no room, or the frame is put out and a waiting reply moves.
-use mathlib.Core.Path.{◌≡◌, sym, ap, ◌∙◌}
+use mathlib.Core.Path.{◌≡◌, sym, ◌∙◌}
 use native.Mathlib.Omega.{arith}
 use borrow.Author.Rules.{rules}
 use lib.ListN.{length}
 use Rattle.base.specs.Tests.{first_of}
-use Rattle.session.specs.Calls.{sending, send_frame}
-use Rattle.session.specs.Refusals.{Done}
-use Rattle.session.specs.Replies.{Out, appended}
+use Rattle.session.specs.Calls.{send_frame}
+use Rattle.session.specs.Replies.{appended}
+use Rattle.session.specs.Session.{with_state}
 use Rattle.replies.proofs.Encoding.{fits-within, fits_parts}
+use Rattle.writer.proofs.Calls.{moved_behind}
 use Rattle.writer.proofs.Numbers.{Clear, clear}
 use Rattle.writer.proofs.send.send_frame.Goals as goal
 
@@ -51,4 +52,4 @@ returns c =
       ← c.put_frame-behind.ensures.0,
       ← c.put_frame-behind.ensures.1,
     )
-    (ap (λ (v : Out). sending Done v.session v.output) c.move_reply.ensures.whole)
+    (moved_behind (with_state c.args.session.now c.args.state) _ _ (omega arith) c.move_reply.ensures.whole)
