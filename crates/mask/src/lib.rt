@@ -10,7 +10,7 @@ mod blocks;
 // Lays a piece of a payload over the store from place `at` on, masked or unmasked, which is the same. The piece's first byte is byte
 // `position` of the payload. Blocks of eight bytes first, and then the few bytes that are left: eight is twice four, so behind any number of
 // blocks the phase is that of `position` again. Kept: a block is read by its place, and not by `as_chunks`, of which the compiler makes the same
-// instructions: so a wrong answer can count on by another number than eight.
+// vector code: so a wrong answer can count on by another number than eight.
 pub fn apply_mask(piece: &[u8], store: &mut [u8], at: usize, mask: [u8; 4], position: usize)
     requires { at + length piece.now ≤ length store.old }
     ensures { store.new ≡ laid store.old at (masked mask position piece.now) }
