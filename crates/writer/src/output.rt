@@ -59,6 +59,7 @@ pub fn take(mut session: Session, n: usize, output: &mut [u8]) -> Handed
     }
 }
 
+#[inline(always)]
 #[tactic(auto, using(session::proofs::Refusals::number_some), unfolding(base::specs::Tests::first_of, session::specs::Calls::take_call, session::specs::Calls::take_tests, session::specs::Calls::held_number, session::specs::Calls::output_short))]
 fn take_held(session: &mut Session, n: usize, output: &mut [u8]) -> Result<(), Refusal>
     ensures { sending (sent_of result) session.new output.new ≡ take_call session.old n output.old }
