@@ -114,8 +114,8 @@ fn read_on(
     }
 }
 
-// The same session, field by field. Copied whole, a session goes through a call, which reads at one time what was written in parts and waits
-// for that: a read of 16 bytes inside a frame then took half as long again.
+// The same session, field by field. Copied whole it goes through a call of the C library, and on one processor reads of 16 bytes inside a
+// frame, in a loop compiled alone, then took half as long again.
 #[inline(always)]
 fn by_fields(session: Session) -> Session
     ensures { result ≡ session }

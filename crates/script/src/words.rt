@@ -2,7 +2,8 @@
 ghost use Rattle.std.specs.Prelude.{◌≡◌, [], min, length, get_or, drop};
 ghost use Rattle.script.specs.Words.{further, find_in, words_of, place_in};
 
-// The place of the first such byte.
+// The place of the first such byte. Kept: over the places, and not by `position`, so that a wrong answer can begin behind the first one or
+// leave some out.
 pub fn find(all: &[u8], byte: u8) -> Option<usize>
     ensures { result ≡ find_in byte all.now }
 {

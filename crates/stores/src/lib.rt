@@ -32,8 +32,8 @@ pub fn put(mask: Option<[u8; 4]>, position: usize, piece: &[u8], store: &mut [u8
 }
 
 // Takes the first n of the held bytes away and moves the rest to the front; every other byte stays. Kept: a store and how much of it is held, and
-// no slice of these bytes: the promise is one of the whole store. And a loop: `copy_within` is the same loop, by the same instructions, but a
-// wrong answer can't leave single bytes out of it.
+// no slice of these bytes: the promise is one of the whole store. And a loop: `copy_within` is the same loop, but with it a
+// wrong answer can't leave out every second byte.
 pub fn to_front(store: &mut [u8], n: usize, held: usize)
     requires { (n ≤ held) × (held ≤ length store.old) }
     ensures { store.new ≡ laid store.old 0 (part n (held - n) store.old) }
